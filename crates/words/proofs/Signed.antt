@@ -1,0 +1,142 @@
+-- Two's complement over any half range h: what the field readers compute is the whole number that the definition names.
+use Prim.Native.Nat.{ℕ, zero, suc, _+_, _-_, _*_, _^_, _≤_, _<_}
+use mathlib.Core.Path.{_≡_, refl, sym, ap, subst, _∙_}
+use mathlib.Core.Bool.{Bool, true, false, not}
+use native.Mathlib.Omega.{arith}
+use native.Mathlib.Nat.{add-zero}
+use borrow.Author.Tests.{lt-ltb, le-ltb, le-leb, lt-leb, ltb-true, ltb-false}
+use lib.Dec.{T, ltb}
+use lib.IntN.{ℤ, pos, negsuc, subℕ, _+ℤ_, _-ℤ_, natAbs}
+use lib.Signed.{mag, nonNeg, ltZ}
+use mir.Syntax.{w32}
+use mir.Val.{Fits, SFits, toZ, ofZ}
+use mir.Facts.{toZ-ofZ, toZ-pos}
+use Rattle.words.specs.Fields.{pick, signed}
+use Rattle.words.specs.Words.{used, modulus, ranged}
+
+false-true : false ≡ true → ⊥
+false-true e = subst (λ (b : Bool). T (not b)) e tt
+
+-- A difference that is no less than nothing
+pub difference : (a b d : ℕ) → a ≡ d + b → pos a -ℤ pos b ≡ pos d
+difference a zero d e = ap pos (omega arith)
+difference a (suc b) d e = rw (le-ltb a (suc b) (omega arith)) (ap pos (omega arith))
+
+-- A difference below nothing
+pub shortfall : (a b d : ℕ) → b ≡ suc (d + a) → pos a -ℤ pos b ≡ negsuc d
+shortfall a zero d e = absurd (omega arith)
+shortfall a (suc b) d e = rw (lt-ltb a (suc b) (omega arith)) (ap negsuc (omega arith))
+
+-- A field of the lower half is itself; one of the upper half is short of nothing
+pub signed-low : (h x : ℕ) → x < h → signed h x ≡ pos x
+signed-low h x l = rw (lt-ltb x h l)
+
+pub signed-high : (h x d : ℕ) → h ≤ x → 2 * h ≡ suc (d + x) → signed h x ≡ negsuc d
+signed-high h x d l e = rw (le-ltb x h l) (shortfall x (2 * h) d e)
+
+-- With the two halves of the range exchanged, half the range taken off gives what the field means
+pub turned : (h x t : ℕ) → x < 2 * h → (x < h → t ≡ x + h) → (h ≤ x → t + h ≡ x) → pos t -ℤ pos h ≡ signed h x
+turned h x t b low high = by (ltb x h) refl
+  where
+    by : (s : Bool) → ltb x h ≡ s → pos t -ℤ pos h ≡ signed h x
+    by true e = difference t h x (low (ltb-true x h e)) ∙ sym (signed-low h x (ltb-true x h e))
+    by false e =
+        let u : t + h ≡ x = high (ltb-false x h e) in
+        shortfall t h (h - suc t) (omega arith) ∙ sym (signed-high h x (h - suc t) (ltb-false x h e) (omega arith))
+
+-- What a field of at most 2 ^ 32 numbers means is held by an i32
+pub signed-fits : (h x : ℕ) → x < 2 * h → h ≤ 2 ^ 31 → SFits w32 (signed h x)
+signed-fits h x b l = by (ltb x h) refl
+  where
+    by : (s : Bool) → ltb x h ≡ s → SFits w32 (signed h x)
+    by true e = rw (signed-low h x (ltb-true x h e)) (record { sfits = let p : x < h = ltb-true x h e in omega arith })
+    by false e =
+        let p : h ≤ x = ltb-false x h e in
+        rw (signed-high h x (2 * h - suc x) p (omega arith)) (record { sfits = omega arith })
+
+module _ (h x t : ℕ) (b : x < 2 * h) (s : h ≤ 2 ^ 31) (low : x < h → t ≡ x + h) (high : h ≤ x → t + h ≡ x) (u : t < 2 ^ 31) where
+  reads : toZ w32 t -ℤ pos h ≡ signed h x
+  reads = rw (toZ-pos w32 u) (turned h x t b low high)
+
+  -- The difference fits its type, and its bits read back are what the field means
+  pub turned-fits : SFits w32 (toZ w32 t -ℤ pos h)
+  turned-fits = rw reads (signed-fits h x b s)
+
+  pub turned-reads : toZ w32 (ofZ w32 (toZ w32 t -ℤ pos h)) ≡ signed h x
+  turned-reads = toZ-ofZ turned-fits ∙ reads
+
+-- A number in the range of an i32 is kept by its bits
+pub kept : (z : ℤ) → mag z < 2 ^ 31 → toZ w32 (ofZ w32 z) ≡ z
+kept z h = toZ-ofZ (record { sfits = h })
+
+-- The other way: half the range added to a number of the range, by the number's sign
+abbrev pub biased : ℕ → ℤ → ℕ
+biased h (pos n) = n + h
+biased h (negsuc n) = h - suc n
+
+module _ (h : ℕ) (z : ℤ) (small : mag z < h) (s : h ≤ 2 ^ 25) where
+  sum : toZ w32 (ofZ w32 z) +ℤ toZ w32 h ≡ pos (biased h z)
+  sum = rw (kept z (omega arith), toZ-pos w32 {n = h} (omega arith)) (by z small)
+    where
+      by : (z : ℤ) → mag z < h → z +ℤ pos h ≡ pos (biased h z)
+      by (pos n) l = refl
+      by (negsuc n) l = rw (le-ltb h (suc n) (omega arith))
+
+  bound : biased h z < 2 * h
+  bound = by z small
+    where
+      by : (z : ℤ) → mag z < h → biased h z < 2 * h
+      by (pos n) l = omega arith
+      by (negsuc n) l = omega arith
+
+  pub biased-fits : SFits w32 (toZ w32 (ofZ w32 z) +ℤ toZ w32 h)
+  biased-fits = rw sum (record { sfits = let b : biased h z < 2 * h = bound in omega arith })
+
+  -- The sum is no less than nothing, so that its cast keeps it
+  pub biased-is : toZ w32 (ofZ w32 (toZ w32 (ofZ w32 z) +ℤ toZ w32 h)) ≡ pos (biased h z)
+  biased-is = toZ-ofZ biased-fits ∙ sum
+
+  pub biased-cast : T (nonNeg (toZ w32 (ofZ w32 (toZ w32 (ofZ w32 z) +ℤ toZ w32 h)))) × Fits w32 (natAbs (toZ w32 (ofZ w32 (toZ w32 (ofZ w32 z) +ℤ toZ w32 h))))
+  biased-cast = rw biased-is (tt, record { fits = let b : biased h z < 2 * h = bound in omega arith })
+
+  -- With the two halves exchanged it is the number modulo the range
+  pub modulus-low : biased h z < h → biased h z + h ≡ modulus (2 * h) (used z)
+  modulus-low l = by z l small
+    where
+      by : (z : ℤ) → biased h z < h → mag z < h → biased h z + h ≡ modulus (2 * h) (used z)
+      by (pos n) l small = absurd (omega arith)
+      by (negsuc n) l small = omega arith
+
+  pub modulus-high : h ≤ biased h z → biased h z - h ≡ modulus (2 * h) (used z)
+  modulus-high l = by z l small
+    where
+      by : (z : ℤ) → h ≤ biased h z → mag z < h → biased h z - h ≡ modulus (2 * h) (used z)
+      by (pos n) l small = omega arith
+      by (negsuc n) l small = absurd (omega arith)
+
+-- A number of the range modulo the range
+pub modulus-below : (h : ℕ) (z : ℤ) → mag z < h → modulus (2 * h) (used z) < 2 * h
+modulus-below h (pos n) l = omega arith
+modulus-below h (negsuc n) l = omega arith
+
+-- The tests of a range against its two ends, -k - 1 and k
+pub under : (k : ℕ) (z : ℤ) → ltZ z (negsuc k) ≡ true → k < mag z
+under k (pos n) e = absurd (false-true e)
+under k (negsuc n) e = ltb-true k n e
+
+pub over : (k : ℕ) (z : ℤ) → ltZ (pos k) z ≡ true → k < mag z
+over k (pos n) e = ltb-true k n e
+over k (negsuc n) e = absurd (false-true e)
+
+pub inside : (k : ℕ) (z : ℤ) → ltZ z (negsuc k) ≡ false → ltZ (pos k) z ≡ false → mag z ≤ k
+inside k (pos n) d e = ltb-false k n e
+inside k (negsuc n) d e = ltb-false k n d
+
+-- A range by the distance from nothing
+pub ranged-yes : (k : ℕ) (z : ℤ) → mag z ≤ k → ranged (suc k) (used z) ≡ true
+ranged-yes k (pos n) l = le-leb n (suc k - 1) (omega arith)
+ranged-yes k (negsuc n) l = rw (le-leb n k l)
+
+pub ranged-not : (k : ℕ) (z : ℤ) → k < mag z → ranged (suc k) (used z) ≡ false
+ranged-not k (pos n) l = lt-leb n (suc k - 1) (omega arith)
+ranged-not k (negsuc n) l = rw (lt-leb n k l)

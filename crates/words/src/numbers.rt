@@ -1,0 +1,115 @@
+// The numbers of the groups' members: functions of the register forms, opcodes of the others.
+ghost use mathlib.Core.Path.{_≡_};
+ghost use Prim.Native.Nat.{_<_};
+ghost use Rattle.words.specs.Words.{shiftImmediateNo, shiftRegisterNo, arithmeticRegisterNo, compareRegisterNo, arithmeticImmediateNo, compareImmediateNo, loadNo, storeNo};
+use crate::Arithmetic;
+use crate::Comparison;
+use crate::LoadKind;
+use crate::Shift;
+use crate::StoreKind;
+
+// slli, slai, srli, srai.
+pub fn shift_immediate(member: Shift) -> u32
+    ensures { λ r. ⌜ (r ≡ shiftImmediateNo member) × (r < 64) ⌝ }
+{
+    match member {
+        Shift::Sll => 0x00,
+        Shift::Sla => 0x01,
+        Shift::Srl => 0x02,
+        Shift::Sra => 0x03,
+    }
+}
+
+// sll, sla, srl, sra.
+pub fn shift_register(member: Shift) -> u32
+    ensures { λ r. ⌜ (r ≡ shiftRegisterNo member) × (r < 64) ⌝ }
+{
+    match member {
+        Shift::Sll => 0x04,
+        Shift::Sla => 0x05,
+        Shift::Srl => 0x06,
+        Shift::Sra => 0x07,
+    }
+}
+
+// addo, add, subo, sub, and, or, xor.
+pub fn arithmetic_register(member: Arithmetic) -> u32
+    ensures { λ r. ⌜ (r ≡ arithmeticRegisterNo member) × (r < 64) ⌝ }
+{
+    match member {
+        Arithmetic::Addo => 0x20,
+        Arithmetic::Add => 0x21,
+        Arithmetic::Subo => 0x22,
+        Arithmetic::Sub => 0x23,
+        Arithmetic::And => 0x24,
+        Arithmetic::Or => 0x25,
+        Arithmetic::Xor => 0x26,
+    }
+}
+
+// sgr, seq, sge, sls, sne, sle.
+pub fn compare_register(member: Comparison) -> u32
+    ensures { λ r. ⌜ (r ≡ compareRegisterNo member) × (r < 64) ⌝ }
+{
+    match member {
+        Comparison::Sgr => 0x29,
+        Comparison::Seq => 0x2A,
+        Comparison::Sge => 0x2B,
+        Comparison::Sls => 0x2C,
+        Comparison::Sne => 0x2D,
+        Comparison::Sle => 0x2E,
+    }
+}
+
+// addio, addi, subio, subi, andi, ori, xori.
+pub fn arithmetic_immediate(member: Arithmetic) -> u32
+    ensures { λ r. ⌜ (r ≡ arithmeticImmediateNo member) × (r < 64) ⌝ }
+{
+    match member {
+        Arithmetic::Addo => 0x08,
+        Arithmetic::Add => 0x09,
+        Arithmetic::Subo => 0x0A,
+        Arithmetic::Sub => 0x0B,
+        Arithmetic::And => 0x0C,
+        Arithmetic::Or => 0x0D,
+        Arithmetic::Xor => 0x0E,
+    }
+}
+
+// sgri, seqi, sgei, slsi, snei, slei.
+pub fn compare_immediate(member: Comparison) -> u32
+    ensures { λ r. ⌜ (r ≡ compareImmediateNo member) × (r < 64) ⌝ }
+{
+    match member {
+        Comparison::Sgr => 0x19,
+        Comparison::Seq => 0x1A,
+        Comparison::Sge => 0x1B,
+        Comparison::Sls => 0x1C,
+        Comparison::Sne => 0x1D,
+        Comparison::Sle => 0x1E,
+    }
+}
+
+// lb, lh, lw, lbu, lhu.
+pub fn load(member: LoadKind) -> u32
+    ensures { λ r. ⌜ (r ≡ loadNo member) × (r < 64) ⌝ }
+{
+    match member {
+        LoadKind::Lb => 0x20,
+        LoadKind::Lh => 0x21,
+        LoadKind::Lw => 0x23,
+        LoadKind::Lbu => 0x24,
+        LoadKind::Lhu => 0x25,
+    }
+}
+
+// sb, sh, sw.
+pub fn store(member: StoreKind) -> u32
+    ensures { λ r. ⌜ (r ≡ storeNo member) × (r < 64) ⌝ }
+{
+    match member {
+        StoreKind::Sb => 0x28,
+        StoreKind::Sh => 0x29,
+        StoreKind::Sw => 0x2B,
+    }
+}

@@ -1,0 +1,147 @@
+// The reader's groups: each function reads the words of some neighbouring numbers.
+ghost use mathlib.Core.Path.{_≡_};
+ghost use Prim.Native.Nat.{_≤_};
+ghost use mathlib.Core.Option.{some};
+ghost use Rattle.words.specs.Fields.{opcode, function};
+ghost use Rattle.words.specs.Words.{reading, readingAnswer};
+use crate::Instruction;
+use crate::LoadKind;
+use crate::Reading;
+use crate::StoreKind;
+use crate::fields::AMOUNT;
+use crate::fields::RS1;
+use crate::fields::SECOND;
+use crate::fields::THIRD;
+use crate::fields::field_of;
+use crate::fields::function_of;
+use crate::fields::immediate16_of;
+use crate::fields::immediate26_of;
+use crate::members::arithmetic_of;
+use crate::members::comparison_of;
+use crate::members::shift_of;
+
+// Opcode 00: the R words, by their function.
+pub fn register(word: u32) -> Reading
+    requires { ⌜ opcode word ≡ 0x00 ⌝ }
+    ensures { λ r. ⌜ readingAnswer r ≡ reading word ⌝ }
+{
+    let number = function_of(word);
+    let rs1 = field_of(word, RS1);
+    let rs2 = field_of(word, SECOND);
+    let rd = field_of(word, THIRD);
+    let sa = field_of(word, AMOUNT);
+    match number {
+        0x00..=0x03 => Reading::Legal(Instruction::ShiftImmediate(shift_of(number), rd, rs1, sa)),
+        0x04..=0x07 => Reading::Legal(Instruction::ShiftRegister(
+            shift_of(number - 0x04),
+            rd,
+            rs1,
+            rs2,
+        )),
+        0x10 => Reading::Legal(Instruction::Movs2i(rd, sa)),
+        0x11 => Reading::Legal(Instruction::Movi2s(sa, rs1)),
+        0x20..=0x26 => Reading::Legal(Instruction::ArithmeticRegister(
+            arithmetic_of(number - 0x18),
+            rd,
+            rs1,
+            rs2,
+        )),
+        0x27 => Reading::Legal(Instruction::Lhg(rd, rs1)),
+        0x28 => Reading::Legal(Instruction::Clr(rd)),
+        0x29..=0x2E => Reading::Legal(Instruction::CompareRegister(
+            comparison_of(number - 0x10),
+            rd,
+            rs1,
+            rs2,
+        )),
+        0x2F => Reading::Legal(Instruction::Set(rd)),
+        _ => Reading::Illegal,
+    }
+}
+
+// j, jal, beqz, bnez.
+pub fn transfer(word: u32, number: u32) -> Instruction
+    requires { ⌜ (opcode word ≡ number) × (0x02 ≤ number) × (number ≤ 0x05) ⌝ }
+    ensures { λ r. ⌜ reading word ≡ (0, some r) ⌝ }
+{
+    let rs1 = field_of(word, RS1);
+    match number {
+        0x02 => Instruction::J(immediate26_of(word)),
+        0x03 => Instruction::Jal(immediate26_of(word)),
+        0x04 => Instruction::Beqz(rs1, immediate16_of(word)),
+        _ => Instruction::Bnez(rs1, immediate16_of(word)),
+    }
+}
+
+// addio, addi, subio, subi, andi, ori, xori, lhgi.
+pub fn arithmetic(word: u32, number: u32) -> Instruction
+    requires { ⌜ (opcode word ≡ number) × (0x08 ≤ number) × (number ≤ 0x0F) ⌝ }
+    ensures { λ r. ⌜ reading word ≡ (0, some r) ⌝ }
+{
+    let rs1 = field_of(word, RS1);
+    let rd = field_of(word, SECOND);
+    let imm = immediate16_of(word);
+    match number {
+        0x08..=0x0E => Instruction::ArithmeticImmediate(arithmetic_of(number), rd, rs1, imm),
+        _ => Instruction::Lhgi(rd, imm),
+    }
+}
+
+// jr, jalr, clri, sgri, seqi, sgei, slsi, snei, slei, seti.
+pub fn test(word: u32, number: u32) -> Instruction
+    requires { ⌜ (opcode word ≡ number) × (0x16 ≤ number) × (number ≤ 0x1F) ⌝ }
+    ensures { λ r. ⌜ reading word ≡ (0, some r) ⌝ }
+{
+    let rs1 = field_of(word, RS1);
+    let rd = field_of(word, SECOND);
+    match number {
+        0x16 => Instruction::Jr(rs1),
+        0x17 => Instruction::Jalr(rs1),
+        0x18 => Instruction::Clri(rd),
+        0x19..=0x1E => Instruction::CompareImmediate(
+            comparison_of(number),
+            rd,
+            rs1,
+            immediate16_of(word),
+        ),
+        _ => Instruction::Seti(rd),
+    }
+}
+
+// lb, lh, lw, lbu, lhu, sb, sh, sw; 22, 26, 27 and 2A are no words.
+pub fn memory(word: u32, number: u32) -> Reading
+    requires { ⌜ (opcode word ≡ number) × (0x20 ≤ number) × (number ≤ 0x2B) ⌝ }
+    ensures { λ r. ⌜ readingAnswer r ≡ reading word ⌝ }
+{
+    let rs1 = field_of(word, RS1);
+    let rd = field_of(word, SECOND);
+    let imm = immediate16_of(word);
+    if number < 0x26 {
+        match number {
+            0x20 => Reading::Legal(Instruction::Load(LoadKind::Lb, rd, rs1, imm)),
+            0x21 => Reading::Legal(Instruction::Load(LoadKind::Lh, rd, rs1, imm)),
+            0x23 => Reading::Legal(Instruction::Load(LoadKind::Lw, rd, rs1, imm)),
+            0x24 => Reading::Legal(Instruction::Load(LoadKind::Lbu, rd, rs1, imm)),
+            0x25 => Reading::Legal(Instruction::Load(LoadKind::Lhu, rd, rs1, imm)),
+            _ => Reading::Illegal,
+        }
+    } else {
+        match number {
+            0x28 => Reading::Legal(Instruction::Store(StoreKind::Sb, rs1, imm, rd)),
+            0x29 => Reading::Legal(Instruction::Store(StoreKind::Sh, rs1, imm, rd)),
+            0x2B => Reading::Legal(Instruction::Store(StoreKind::Sw, rs1, imm, rd)),
+            _ => Reading::Illegal,
+        }
+    }
+}
+
+// trap, rfe.
+pub fn system(word: u32, number: u32) -> Instruction
+    requires { ⌜ (opcode word ≡ number) × (0x3E ≤ number) × (number ≤ 0x3F) ⌝ }
+    ensures { λ r. ⌜ reading word ≡ (0, some r) ⌝ }
+{
+    match number {
+        0x3E => Instruction::Trap(immediate26_of(word)),
+        _ => Instruction::Rfe,
+    }
+}
