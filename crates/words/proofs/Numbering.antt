@@ -2,8 +2,8 @@
 -- that no instruction has leads to 23.
 use Prim.Native.Nat.{ℕ, zero, suc, _+_, _^_, _≤_, _<_}
 use native.Mathlib.Omega.{arith}
-use mathlib.Core.Path.{_≡_, refl, ap, ap₂, _∙_}
-use mathlib.Core.Bool.{Bool, true, false, _&&_}
+use mathlib.Core.Path.{_≡_, refl, ap, ap₂, subst, _∙_}
+use mathlib.Core.Bool.{Bool, true, false, not, _&&_}
 use mathlib.Core.List.{List, [], _∷_}
 use mathlib.Core.Option.{Option, none, some}
 use borrow.Author.Tests.{eqb-true, eqb-false, ltb-true, ltb-false}
@@ -50,12 +50,12 @@ filled (Load k rd r1 imm) w = Load k (second w) (rs1 w) (immediate16 w)
 filled (Store k r1 imm rd) w = Store k (rs1 w) (immediate16 w) (second w)
 
 -- opcode and function of a word with the number of a form: f is the word's own where the format has no function
-abbrev op : Form → ℕ
+abbrev pub op : Form → ℕ
 op (formR a b d s n) = 0x00
 op (formI n a d m) = n
 op (formJ n m) = n
 
-abbrev fn : Form → ℕ → ℕ
+abbrev pub fn : Form → ℕ → ℕ
 fn (formR a b d s n) f = n
 fn (formI n a d m) f = f
 fn (formJ n m) f = f
@@ -151,3 +151,8 @@ below-or-not a b = by (ltb a b) refl
     by : (t : Bool) → ltb a b ≡ t → (a < b) ⊎ (b ≤ a)
     by true e = inl (ltb-true a b e)
     by false e = inr (ltb-false a b e)
+
+-- Both halves of a test
+pub both : (a b : Bool) → a && b ≡ true → (a ≡ true) × (b ≡ true)
+both true b e = (refl, e)
+both false b e = absurd (subst (λ (t : Bool). T (not t)) e tt)

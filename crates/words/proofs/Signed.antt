@@ -1,11 +1,11 @@
 -- Two's complement over any half range h: what the field readers compute is the whole number that the definition names.
 use Prim.Native.Nat.{ℕ, zero, suc, _+_, _-_, _*_, _^_, _≤_, _<_}
 use mathlib.Core.Path.{_≡_, refl, sym, ap, subst, _∙_}
-use mathlib.Core.Bool.{Bool, true, false, not}
+use mathlib.Core.Bool.{Bool, true, false, not, _&&_}
 use native.Mathlib.Omega.{arith}
 use native.Mathlib.Nat.{add-zero}
-use borrow.Author.Tests.{lt-ltb, le-ltb, le-leb, lt-leb, ltb-true, ltb-false}
-use lib.Dec.{T, ltb}
+use borrow.Author.Tests.{lt-ltb, le-ltb, le-leb, lt-leb, ltb-true, ltb-false, leb-true}
+use lib.Dec.{T, ltb, leb}
 use lib.IntN.{ℤ, pos, negsuc, subℕ, _+ℤ_, _-ℤ_, natAbs}
 use lib.Signed.{mag, nonNeg, ltZ}
 use mir.Syntax.{w32}
@@ -14,7 +14,8 @@ use mir.Facts.{toZ-ofZ, toZ-pos}
 use Rattle.words.specs.Fields.{pick, signed}
 use Rattle.words.specs.Words.{used, modulus, ranged}
 
-false-true : false ≡ true → ⊥
+-- A test that is both
+pub false-true : false ≡ true → ⊥
 false-true e = subst (λ (b : Bool). T (not b)) e tt
 
 -- A difference that is no less than nothing
@@ -140,3 +141,11 @@ ranged-yes k (negsuc n) l = rw (le-leb n k l)
 pub ranged-not : (k : ℕ) (z : ℤ) → k < mag z → ranged (suc k) (used z) ≡ false
 ranged-not k (pos n) l = lt-leb n (suc k - 1) (omega arith)
 ranged-not k (negsuc n) l = rw (lt-leb n k l)
+
+pub ranged-mag : (k : ℕ) (z : ℤ) → ranged (suc k) (used z) ≡ true → mag z ≤ k
+ranged-mag k (pos n) e = let l : n ≤ suc k - 1 = leb-true n (suc k - 1) e in omega arith
+ranged-mag k (negsuc n) e = leb-true n k (left (leb n k) e)
+  where
+    left : (b : Bool) → b && true ≡ true → b ≡ true
+    left true e = refl
+    left false e = e

@@ -1,6 +1,6 @@
 -- Document 01, "Words": the 58 legal words. One table gives each instruction its format, its number and its fields;
 -- reading and making are both defined from it.
-use Prim.Native.Nat.{ℕ, _+_, _*_, _-_, _^_}
+use Prim.Native.Nat.{ℕ, _+_, _*_, _-_, _%_, _^_}
 use mathlib.Core.Bool.{Bool, true, false, _&&_}
 use mathlib.Core.List.{List, [], _∷_, _++_, map}
 use mathlib.Core.Option.{Option, none, some}
@@ -246,3 +246,15 @@ laid f = pick (fits f) (0, some (word f)) (14, none)
 -- Making a word
 abbrev pub making : Instruction → ℕ × Option ℕ
 making i = laid (form i)
+
+-- ---- A word with its unused fields zero
+
+abbrev pub kept : {A : Type 0} → Field A → ℕ → ℕ
+kept (used v) x = x
+kept unused x = 0
+
+-- The word w with the fields that a form does not use zeroed
+abbrev pub cleared : Form → ℕ → ℕ
+cleared (formR a b d s n) w = opcode w * 2 ^ 26 + kept a (rs1 w) * 2 ^ 21 + kept b (second w) * 2 ^ 16 + kept d (third w) * 2 ^ 11 + kept s (amount w) * 2 ^ 6 + function w
+cleared (formI n a d m) w = opcode w * 2 ^ 26 + kept a (rs1 w) * 2 ^ 21 + kept d (second w) * 2 ^ 16 + kept m (w % 2 ^ 16)
+cleared (formJ n m) w = opcode w * 2 ^ 26 + kept m (w % 2 ^ 26)

@@ -1,16 +1,16 @@
 // The fields of a word, by their bits.
 ghost use mathlib.Core.Path.{_≡_};
-ghost use Prim.Native.Nat.{_<_};
-ghost use Rattle.words.specs.Fields.{opcode, function, field, immediate16, immediate26};
+ghost use Rattle.words.specs.Fields.{opcode, function, rs1, second, third, amount, immediate16, immediate26};
 
-// Where the four fields of five bits begin.
-pub const RS1: u32 = 21;
-// RD of an I word, RS2 of an R word.
-pub const SECOND: u32 = 16;
-// RD of an R word.
-pub const THIRD: u32 = 11;
-
-pub const AMOUNT: u32 = 6;
+// The four fields of five bits.
+pub struct Fields {
+    pub rs1: u8,
+    // RD of an I word, RS2 of an R word.
+    pub second: u8,
+    // RD of an R word.
+    pub third: u8,
+    pub amount: u8,
+}
 
 pub fn opcode_of(word: u32) -> u32
     ensures { λ r. ⌜ r ≡ opcode word ⌝ }
@@ -24,12 +24,15 @@ pub fn function_of(word: u32) -> u32
     word % 64
 }
 
-// The five bits from `from` on.
-pub fn field_of(word: u32, from: u32) -> u8
-    requires { ⌜ from < 32 ⌝ }
-    ensures { λ r. ⌜ r ≡ field from word ⌝ }
+pub fn fields_of(word: u32) -> Fields
+    ensures { λ r. ⌜ (r .rs1 ≡ rs1 word) × (r .second ≡ second word) × (r .third ≡ third word) × (r .amount ≡ amount word) ⌝ }
 {
-    ((word >> from) % 32) as u8
+    Fields {
+        rs1: ((word >> 21) % 32) as u8,
+        second: ((word >> 16) % 32) as u8,
+        third: ((word >> 11) % 32) as u8,
+        amount: ((word >> 6) % 32) as u8,
+    }
 }
 
 // The two halves of the field's range change places, and half the range is taken off again: no branch.

@@ -8,11 +8,7 @@ use crate::Instruction;
 use crate::LoadKind;
 use crate::Reading;
 use crate::StoreKind;
-use crate::fields::AMOUNT;
-use crate::fields::RS1;
-use crate::fields::SECOND;
-use crate::fields::THIRD;
-use crate::fields::field_of;
+use crate::fields::fields_of;
 use crate::fields::function_of;
 use crate::fields::immediate16_of;
 use crate::fields::immediate26_of;
@@ -26,35 +22,37 @@ pub fn register(word: u32) -> Reading
     ensures { λ r. ⌜ readingAnswer r ≡ reading word ⌝ }
 {
     let number = function_of(word);
-    let rs1 = field_of(word, RS1);
-    let rs2 = field_of(word, SECOND);
-    let rd = field_of(word, THIRD);
-    let sa = field_of(word, AMOUNT);
+    let f = fields_of(word);
     match number {
-        0x00..=0x03 => Reading::Legal(Instruction::ShiftImmediate(shift_of(number), rd, rs1, sa)),
+        0x00..=0x03 => Reading::Legal(Instruction::ShiftImmediate(
+            shift_of(number),
+            f.third,
+            f.rs1,
+            f.amount,
+        )),
         0x04..=0x07 => Reading::Legal(Instruction::ShiftRegister(
             shift_of(number - 0x04),
-            rd,
-            rs1,
-            rs2,
+            f.third,
+            f.rs1,
+            f.second,
         )),
-        0x10 => Reading::Legal(Instruction::Movs2i(rd, sa)),
-        0x11 => Reading::Legal(Instruction::Movi2s(sa, rs1)),
+        0x10 => Reading::Legal(Instruction::Movs2i(f.third, f.amount)),
+        0x11 => Reading::Legal(Instruction::Movi2s(f.amount, f.rs1)),
         0x20..=0x26 => Reading::Legal(Instruction::ArithmeticRegister(
             arithmetic_of(number - 0x18),
-            rd,
-            rs1,
-            rs2,
+            f.third,
+            f.rs1,
+            f.second,
         )),
-        0x27 => Reading::Legal(Instruction::Lhg(rd, rs1)),
-        0x28 => Reading::Legal(Instruction::Clr(rd)),
+        0x27 => Reading::Legal(Instruction::Lhg(f.third, f.rs1)),
+        0x28 => Reading::Legal(Instruction::Clr(f.third)),
         0x29..=0x2E => Reading::Legal(Instruction::CompareRegister(
             comparison_of(number - 0x10),
-            rd,
-            rs1,
-            rs2,
+            f.third,
+            f.rs1,
+            f.second,
         )),
-        0x2F => Reading::Legal(Instruction::Set(rd)),
+        0x2F => Reading::Legal(Instruction::Set(f.third)),
         _ => Reading::Illegal,
     }
 }
@@ -64,12 +62,12 @@ pub fn transfer(word: u32, number: u32) -> Instruction
     requires { ⌜ (opcode word ≡ number) × (0x02 ≤ number) × (number ≤ 0x05) ⌝ }
     ensures { λ r. ⌜ reading word ≡ (0, some r) ⌝ }
 {
-    let rs1 = field_of(word, RS1);
+    let f = fields_of(word);
     match number {
         0x02 => Instruction::J(immediate26_of(word)),
         0x03 => Instruction::Jal(immediate26_of(word)),
-        0x04 => Instruction::Beqz(rs1, immediate16_of(word)),
-        _ => Instruction::Bnez(rs1, immediate16_of(word)),
+        0x04 => Instruction::Beqz(f.rs1, immediate16_of(word)),
+        _ => Instruction::Bnez(f.rs1, immediate16_of(word)),
     }
 }
 
@@ -78,12 +76,16 @@ pub fn arithmetic(word: u32, number: u32) -> Instruction
     requires { ⌜ (opcode word ≡ number) × (0x08 ≤ number) × (number ≤ 0x0F) ⌝ }
     ensures { λ r. ⌜ reading word ≡ (0, some r) ⌝ }
 {
-    let rs1 = field_of(word, RS1);
-    let rd = field_of(word, SECOND);
+    let f = fields_of(word);
     let imm = immediate16_of(word);
     match number {
-        0x08..=0x0E => Instruction::ArithmeticImmediate(arithmetic_of(number), rd, rs1, imm),
-        _ => Instruction::Lhgi(rd, imm),
+        0x08..=0x0E => Instruction::ArithmeticImmediate(
+            arithmetic_of(number),
+            f.second,
+            f.rs1,
+            imm,
+        ),
+        _ => Instruction::Lhgi(f.second, imm),
     }
 }
 
@@ -92,19 +94,18 @@ pub fn test(word: u32, number: u32) -> Instruction
     requires { ⌜ (opcode word ≡ number) × (0x16 ≤ number) × (number ≤ 0x1F) ⌝ }
     ensures { λ r. ⌜ reading word ≡ (0, some r) ⌝ }
 {
-    let rs1 = field_of(word, RS1);
-    let rd = field_of(word, SECOND);
+    let f = fields_of(word);
     match number {
-        0x16 => Instruction::Jr(rs1),
-        0x17 => Instruction::Jalr(rs1),
-        0x18 => Instruction::Clri(rd),
+        0x16 => Instruction::Jr(f.rs1),
+        0x17 => Instruction::Jalr(f.rs1),
+        0x18 => Instruction::Clri(f.second),
         0x19..=0x1E => Instruction::CompareImmediate(
             comparison_of(number),
-            rd,
-            rs1,
+            f.second,
+            f.rs1,
             immediate16_of(word),
         ),
-        _ => Instruction::Seti(rd),
+        _ => Instruction::Seti(f.second),
     }
 }
 
@@ -113,23 +114,22 @@ pub fn memory(word: u32, number: u32) -> Reading
     requires { ⌜ (opcode word ≡ number) × (0x20 ≤ number) × (number ≤ 0x2B) ⌝ }
     ensures { λ r. ⌜ readingAnswer r ≡ reading word ⌝ }
 {
-    let rs1 = field_of(word, RS1);
-    let rd = field_of(word, SECOND);
+    let f = fields_of(word);
     let imm = immediate16_of(word);
     if number < 0x26 {
         match number {
-            0x20 => Reading::Legal(Instruction::Load(LoadKind::Lb, rd, rs1, imm)),
-            0x21 => Reading::Legal(Instruction::Load(LoadKind::Lh, rd, rs1, imm)),
-            0x23 => Reading::Legal(Instruction::Load(LoadKind::Lw, rd, rs1, imm)),
-            0x24 => Reading::Legal(Instruction::Load(LoadKind::Lbu, rd, rs1, imm)),
-            0x25 => Reading::Legal(Instruction::Load(LoadKind::Lhu, rd, rs1, imm)),
+            0x20 => Reading::Legal(Instruction::Load(LoadKind::Lb, f.second, f.rs1, imm)),
+            0x21 => Reading::Legal(Instruction::Load(LoadKind::Lh, f.second, f.rs1, imm)),
+            0x23 => Reading::Legal(Instruction::Load(LoadKind::Lw, f.second, f.rs1, imm)),
+            0x24 => Reading::Legal(Instruction::Load(LoadKind::Lbu, f.second, f.rs1, imm)),
+            0x25 => Reading::Legal(Instruction::Load(LoadKind::Lhu, f.second, f.rs1, imm)),
             _ => Reading::Illegal,
         }
     } else {
         match number {
-            0x28 => Reading::Legal(Instruction::Store(StoreKind::Sb, rs1, imm, rd)),
-            0x29 => Reading::Legal(Instruction::Store(StoreKind::Sh, rs1, imm, rd)),
-            0x2B => Reading::Legal(Instruction::Store(StoreKind::Sw, rs1, imm, rd)),
+            0x28 => Reading::Legal(Instruction::Store(StoreKind::Sb, f.rs1, imm, f.second)),
+            0x29 => Reading::Legal(Instruction::Store(StoreKind::Sh, f.rs1, imm, f.second)),
+            0x2B => Reading::Legal(Instruction::Store(StoreKind::Sw, f.rs1, imm, f.second)),
             _ => Reading::Illegal,
         }
     }
