@@ -1,3 +1,4 @@
+pub mod Range
 pub mod Signed
 pub mod Numbering
 pub mod Again

@@ -9,6 +9,7 @@ use mathlib.Core.Option.{Option, none, some}
 use borrow.Author.Tests.{eqb-true, eqb-false, ltb-true, ltb-false}
 use mathlib.Core.Logic.{_⊎_, inl, inr}
 use lib.Dec.{T, eqb, ltb}
+use Rattle.words.proofs.Range.{every, every-at}
 use Rattle.words.specs.Fields.{pick, opcode, function, rs1, second, third, amount, immediate16, immediate26}
 use Rattle.words.specs.Words.{Form, formR, formI, formJ, form, instructions, reading, among, numbered, shiftImmediateNo, shiftRegisterNo, arithmeticRegisterNo, arithmeticImmediateNo, compareRegisterNo, compareImmediateNo}
 use Rattle.words.specs.declared.Instruction.{Instruction}
@@ -101,29 +102,14 @@ bare o f (i ∷ is) e = by (numbered o f (form i)) (bare o f is) e
     by true next e = absurd (omega arith)
     by false next e = next e
 
--- A test of the n numbers from lo on, and what it shows of each
-abbrev all : (ℕ → ℕ) → ℕ → ℕ → Bool
-all g lo zero = true
-all g lo (suc n) = pick (eqb (g lo) 23) (all g (suc lo) n) false
-
-each : (g : ℕ → ℕ) (lo n : ℕ) → T (all g lo n) → (k : ℕ) → lo ≤ k → k < lo + n → g k ≡ 23
-each g lo zero t k l h = absurd (omega arith)
-each g lo (suc n) t k l h = by (eqb (g lo) 23) refl t (eqb k lo) refl (each g (suc lo) n)
-  where
-    by : (b : Bool) → eqb (g lo) 23 ≡ b → T (pick b (all g (suc lo) n) false) → (c : Bool) → eqb k lo ≡ c
-        → (T (all g (suc lo) n) → (k : ℕ) → suc lo ≤ k → k < suc lo + n → g k ≡ 23) → g k ≡ 23
-    by true e t true d rest = ap g (eqb-true k lo d) ∙ eqb-true (g lo) 23 e
-    by true e t false d rest = rest t k (let u : k ≡ lo → ⊥ = eqb-false k lo d in omega arith) (omega arith)
-    by false e t c d rest = absurd t
-
 -- Numbers from lo on, n of them, that no function of an R word has, or no opcode, lead to 23
-pub no-function : (lo n w : ℕ) → T (all (λ k. among 0 k (instructions w) .0) lo n) → opcode w ≡ 0 → lo ≤ function w → function w < lo + n → reading w ≡ (23, none)
+pub no-function : (lo n w : ℕ) → T (every (λ k. eqb (among 0 k (instructions w) .0) 23) lo n) → opcode w ≡ 0 → lo ≤ function w → function w < lo + n → reading w ≡ (23, none)
 unfolding reading
-no-function lo n w t e l h = rw e (bare 0 (function w) (instructions w) (each (λ k. among 0 k (instructions w) .0) lo n t (function w) l h))
+no-function lo n w t e l h = rw e (bare 0 (function w) (instructions w) (eqb-true (among 0 (function w) (instructions w) .0) 23 (every-at (λ k. eqb (among 0 k (instructions w) .0) 23) lo n t (function w) l h)))
 
-pub no-opcode : (lo n w : ℕ) → T (all (λ k. among k (function w) (instructions w) .0) lo n) → lo ≤ opcode w → opcode w < lo + n → reading w ≡ (23, none)
+pub no-opcode : (lo n w : ℕ) → T (every (λ k. eqb (among k (function w) (instructions w) .0) 23) lo n) → lo ≤ opcode w → opcode w < lo + n → reading w ≡ (23, none)
 unfolding reading
-no-opcode lo n w t l h = bare (opcode w) (function w) (instructions w) (each (λ k. among k (function w) (instructions w) .0) lo n t (opcode w) l h)
+no-opcode lo n w t l h = bare (opcode w) (function w) (instructions w) (eqb-true (among (opcode w) (function w) (instructions w) .0) 23 (every-at (λ k. eqb (among k (function w) (instructions w) .0) 23) lo n t (opcode w) l h))
 
 -- The register and the immediate forms of a group have the same order
 pub shift-offset : (s : Shift) → shiftRegisterNo s ≡ shiftImmediateNo s + 4

@@ -75,13 +75,13 @@ abbrev pub biased : ℕ → ℤ → ℕ
 biased h (pos n) = n + h
 biased h (negsuc n) = h - suc n
 
+pub biased-sum : (h : ℕ) (z : ℤ) → mag z < h → z +ℤ pos h ≡ pos (biased h z)
+biased-sum h (pos n) l = refl
+biased-sum h (negsuc n) l = rw (le-ltb h (suc n) (omega arith))
+
 module _ (h : ℕ) (z : ℤ) (small : mag z < h) (s : h ≤ 2 ^ 25) where
   sum : toZ w32 (ofZ w32 z) +ℤ toZ w32 h ≡ pos (biased h z)
-  sum = rw (kept z (omega arith), toZ-pos w32 {n = h} (omega arith)) (by z small)
-    where
-      by : (z : ℤ) → mag z < h → z +ℤ pos h ≡ pos (biased h z)
-      by (pos n) l = refl
-      by (negsuc n) l = rw (le-ltb h (suc n) (omega arith))
+  sum = rw (kept z (omega arith), toZ-pos w32 {n = h} (omega arith)) (biased-sum h z small)
 
   bound : biased h z < 2 * h
   bound = by z small

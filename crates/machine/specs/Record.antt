@@ -1,0 +1,76 @@
+-- Document 01, "The run card": the tests of the refusal table that concern a record, by their numbers.
+use Prim.Native.Nat.{ℕ, zero, suc, _+_, _*_, _%_}
+use mathlib.Core.Bool.{Bool, true, false, not, _&&_, _||_}
+use mathlib.Core.List.{List, [], _∷_}
+use lib.Dec.{eqb, leb, ltb}
+use lib.ListN.{getD, replicate}
+use Rattle.machine.specs.declared.Machine.{Machine}
+use Rattle.machine.specs.declared.Region.{Region}
+use Rattle.words.specs.Fields.{pick}
+use Rattle.machine.specs.Effects.{one-of, thirteen, MODE, State}
+
+-- A record of zeros
+abbrev pub zeros : Machine
+zeros = record { code = record { start = 0; words = 0 }; «data» = record { start = 0; words = 0 }; limit = 0; dpc = 0; pc = 0; gpr = replicate 32 0; spr = replicate 32 0 }
+
+-- A region of c words from s holds the addresses a with s <= a < s + 4c
+abbrev pub holds : Region → ℕ → Bool
+holds r a = leb (r .start) a && ltb a (r .start + 4 * r .words)
+
+-- The longest code and the longest data, in words
+abbrev pub LONGEST : ℕ
+LONGEST = 1024
+
+-- Modelled memory is bytes 0 to 16,383
+abbrev pub MEMORY : ℕ
+MEMORY = 16384
+
+abbrev pub MOST-STEPS : ℕ
+MOST-STEPS = 1000000
+
+-- 6: C is 0 or over 1,024, or D over 1,024
+unfoldable pub wrongCount : Machine → Bool
+wrongCount m = eqb (m .code .words) 0 || ltb LONGEST (m .code .words) || ltb LONGEST (m .«data» .words)
+
+-- 8: a start is not a multiple of 4
+unfoldable pub oddStart : Machine → Bool
+oddStart m = not (eqb (m .code .start % 4) 0) || not (eqb (m .«data» .start % 4) 0)
+
+-- 9: start + 4 x count exceeds 16,384, as whole numbers, for either region
+unfoldable pub pastMemory : Machine → Bool
+pastMemory m = ltb MEMORY (m .code .start + 4 * m .code .words) || ltb MEMORY (m .«data» .start + 4 * m .«data» .words)
+
+-- 10: some address is in both regions (never when D = 0): one region holds the start of the other
+unfoldable pub overlap : Machine → Bool
+overlap m = not (eqb (m .«data» .words) 0) && (holds (m .«data») (m .code .start) || holds (m .code) (m .«data» .start))
+
+-- Some number below n passes a test
+abbrev pub some : (ℕ → Bool) → ℕ → Bool
+some p zero = false
+some p (suc n) = p n || some p n
+
+-- 11: R0, an unused special register or MODE is not 0
+abbrev pub idle : ℕ → Bool
+idle n = not (one-of n thirteen) || eqb n MODE
+
+unfoldable pub idleSet : List ℕ → Bool
+idleSet p = some (λ n. idle n && not (eqb (getD p n 0) 0)) 32
+
+unfoldable pub notZero : Machine → Bool
+notZero m = not (eqb (getD (m .gpr) 0 0) 0) || idleSet (m .spr)
+
+-- 12: step limit over 1,000,000
+unfoldable pub overLimit : Machine → Bool
+overLimit m = ltb MOST-STEPS (m .limit)
+
+-- The state of a record, and a record with another state: no step or run changes a record's regions or limit
+abbrev pub stateOf : Machine → State
+stateOf m = record { dpc = m .dpc; pc = m .pc; gpr = m .gpr; spr = m .spr }
+
+abbrev pub withState : Machine → State → Machine
+withState m s = record { code = m .code; «data» = m .«data»; limit = m .limit; dpc = s .dpc; pc = s .pc; gpr = s .gpr; spr = s .spr }
+
+-- A table of tests with their numbers: the number of the first that holds, 0 where none does
+abbrev pub first : List (Bool × ℕ) → ℕ
+first [] = 0
+first (t ∷ ts) = pick (t .0) (t .1) (first ts)

@@ -1,0 +1,59 @@
+-- Document 01, "What an instruction does": the rulings on words of 32 bits.
+use Prim.Native.Nat.{ℕ, _+_, _-_, _*_, _/_, _%_, _^_}
+use mathlib.Core.Bool.{Bool, true, false, not, _&&_}
+use lib.Bits.{bitAnd, bitOr, bitXor}
+use lib.Dec.{eqb, ltb}
+use lib.IntN.{ℤ, pos, negsuc, negℤ, _+ℤ_, _-ℤ_}
+use lib.Signed.{ltZ, leZ, shrZ}
+use Rattle.words.specs.Fields.{pick, signed}
+use Rattle.words.specs.declared.Shift.{Shift}
+use Rattle.words.specs.declared.Shift.the-variants.{Sll, Sla, Srl, Sra}
+use Rattle.words.specs.declared.Comparison.{Comparison}
+use Rattle.words.specs.declared.Comparison.the-variants.{Sgr, Seq, Sge, Sls, Sne, Sle}
+
+-- Sums and differences are taken modulo 2 ^ 32
+unfoldable pub plus : ℕ → ℕ → ℕ
+plus a b = (a + b) % 2 ^ 32
+
+unfoldable pub minus : ℕ → ℕ → ℕ
+minus a b = (a + (2 ^ 32 - b)) % 2 ^ 32
+
+-- The number that a word means in two's complement
+abbrev pub integer : ℕ → ℤ
+integer x = signed (2 ^ 31) x
+
+-- An immediate, sign-extended: the whole number modulo 2 ^ 32
+unfoldable pub sext : ℤ → ℕ
+sext (pos n) = n
+sext (negsuc n) = 2 ^ 32 - (n + 1)
+
+-- The low 16 bits of a word times 65,536: lhg of a register, and lhgi of an immediate, which is imm times 65,536 modulo 2 ^ 32
+unfoldable pub high : ℕ → ℕ
+high x = x % 2 ^ 16 * 65536
+
+-- Shifts use the low five bits of the amount. slai and sla shift as slli and sll; srai and sra copy the sign: the number is divided and rounded down
+unfoldable pub shifted : Shift → ℕ → ℕ → ℕ
+shifted Sll x n = x * 2 ^ (n % 32) % 2 ^ 32
+shifted Sla x n = x * 2 ^ (n % 32) % 2 ^ 32
+shifted Srl x n = x / 2 ^ (n % 32)
+shifted Sra x n = sext (shrZ (integer x) (2 ^ (n % 32)))
+
+-- Comparisons read both sides as two's complement
+unfoldable pub holds : Comparison → ℕ → ℕ → Bool
+holds Sgr a b = ltZ (integer b) (integer a)
+holds Seq a b = eqb a b
+holds Sge a b = leZ (integer b) (integer a)
+holds Sls a b = ltZ (integer a) (integer b)
+holds Sne a b = not (eqb a b)
+holds Sle a b = leZ (integer a) (integer b)
+
+-- A comparison gives 1 where it holds, else 0
+abbrev pub bit : Bool → ℕ
+bit b = pick b 1 0
+
+abbrev pub compared : Comparison → ℕ → ℕ → ℕ
+compared k a b = bit (holds k a b)
+
+-- A signed result below -2 ^ 31 or above 2 ^ 31 - 1
+abbrev pub beyond : ℤ → Bool
+beyond z = not (leZ (negℤ (pos (2 ^ 31))) z && leZ z (pos (2 ^ 31 - 1)))

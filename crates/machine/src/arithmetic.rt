@@ -1,0 +1,121 @@
+// The rulings on words: each is a leaf with the document's own definition.
+ghost use mathlib.Core.Path.{_≡_};
+ghost use Prim.Native.Nat.{_<_, _≤_, _+_, _%_, _^_};
+ghost use lib.Signed.{ltZ, shrZ};
+ghost use lib.IntN.{pos, _+ℤ_, _-ℤ_};
+ghost use Rattle.machine.specs.Rulings.{sext, shifted, high, integer, bit, compared, minus, beyond};
+use words::Comparison;
+use words::Shift;
+
+// The lowest word that stands for a number below nothing.
+const SIGN: u32 = 2147483648;
+
+// The word of a whole number.
+pub fn sext_of(imm: i32) -> u32
+    ensures { λ r. ⌜ r ≡ sext imm ⌝ }
+{
+    let lifted = imm as i64 + 4294967296;
+    (lifted as u64 % 4294967296) as u32
+}
+
+// Whether a is less than b as numbers in two's complement.
+pub fn less(a: u32, b: u32) -> bool
+    ensures { λ r. ⌜ r ≡ ltZ (integer a) (integer b) ⌝ }
+{
+    if a < SIGN {
+        if b < SIGN { a < b } else { false }
+    } else {
+        if b < SIGN { true } else { a < b }
+    }
+}
+
+// The shift of x by the low five bits of n.
+pub fn shift(kind: Shift, x: u32, n: u32) -> u32
+    ensures { λ r. ⌜ r ≡ shifted kind x n ⌝ }
+{
+    let places = n % 32;
+    match kind {
+        Shift::Sll => x << places,
+        Shift::Sla => x << places,
+        Shift::Srl => x >> places,
+        Shift::Sra => copying(x, places),
+    }
+}
+
+// Right with copies of the sign.
+fn copying(x: u32, places: u32) -> u32
+    requires { ⌜ places < 32 ⌝ }
+    ensures { λ r. ⌜ r ≡ sext (shrZ (integer x) (2 ^ places)) ⌝ }
+{
+    if x < SIGN {
+        x >> places
+    } else {
+        4294967295 - ((4294967295 - x) >> places)
+    }
+}
+
+// The low 16 bits of x times 65,536.
+pub fn high_of(x: u32) -> u32
+    ensures { λ r. ⌜ r ≡ high x ⌝ }
+{
+    (x % 65536) * 65536
+}
+
+// 1 where the comparison holds, else 0.
+pub fn compare(kind: Comparison, a: u32, b: u32) -> u32
+    ensures { λ r. ⌜ r ≡ compared kind a b ⌝ }
+{
+    match kind {
+        Comparison::Sgr => flag(less(b, a)),
+        Comparison::Seq => flag(a == b),
+        Comparison::Sge => flag(!less(a, b)),
+        Comparison::Sls => flag(less(a, b)),
+        Comparison::Sne => flag(a != b),
+        Comparison::Sle => flag(!less(b, a)),
+    }
+}
+
+fn flag(holds: bool) -> u32
+    ensures { λ r. ⌜ r ≡ bit holds ⌝ }
+{
+    if holds { 1 } else { 0 }
+}
+
+// a less b, modulo 2^32.
+pub fn difference(a: u32, b: u32) -> u32
+    ensures { λ r. ⌜ r ≡ minus a b ⌝ }
+{
+    std::num::wrapping_sub_u32(a, b)
+}
+
+// Whether the signed sum lies beyond the words. Both sides are lifted by 2^31, so the sum is lifted by 2^32.
+pub fn sum_beyond(a: u32, b: u32) -> bool
+    ensures { λ r. ⌜ r ≡ beyond (integer a +ℤ integer b) ⌝ }
+{
+    apart(lift(a) + lift(b), 4294967296)
+}
+
+// Whether the signed difference lies beyond the words. Both sides are lifted by 2^31.
+pub fn difference_beyond(a: u32, b: u32) -> bool
+    ensures { λ r. ⌜ r ≡ beyond (integer a -ℤ integer b) ⌝ }
+{
+    apart(lift(a), lift(b))
+}
+
+// Whether x less y lies beyond the words.
+fn apart(x: u64, y: u64) -> bool
+    requires { ⌜ (x ≤ 2 ^ 33) × (y ≤ 2 ^ 33) ⌝ }
+    ensures { λ r. ⌜ r ≡ beyond (pos x -ℤ pos y) ⌝ }
+{
+    if x + 2147483648 < y {
+        return true;
+    }
+    y + 2147483648 <= x
+}
+
+// The number that a word means, and 2^31.
+fn lift(a: u32) -> u64
+    ensures { λ r. ⌜ r ≡ (a + 2 ^ 31) % 2 ^ 32 ⌝ }
+{
+    std::num::wrapping_add_u32(a, SIGN) as u64
+}

@@ -1,0 +1,38 @@
+// Reading and writing the registers. A number past 31 names no register: it reads 0, and a write to it is dropped.
+ghost use mathlib.Core.Path.{_≡_};
+ghost use Rattle.machine.specs.Effects.{register, put, putSpecial};
+use crate::Machine;
+
+pub fn value(gpr: &[u32; 32], number: u8) -> u32
+    ensures { λ r. ⌜ r ≡ register (now (gpr .entry)) number ⌝ }
+{
+    let at = number as usize;
+    if at < 32 { gpr[at] } else { 0 }
+}
+
+// R0 is always 0: a write to it is dropped.
+pub fn write(gpr: &mut [u32; 32], number: u8, value: u32)
+    ensures { λ _. ⌜ now (gpr .exit) ≡ put (now (gpr .entry)) number value ⌝ }
+{
+    let at = number as usize;
+    if at == 0 {
+        return;
+    }
+    if at < 32 {
+        gpr[at] = value;
+    }
+}
+
+// A write to a special register that is none of the thirteen is dropped.
+pub fn write_special(spr: &mut [u32; 32], number: u8, value: u32)
+    ensures { λ _. ⌜ now (spr .exit) ≡ putSpecial (now (spr .entry)) number value ⌝ }
+{
+    let at = number as usize;
+    if at <= Machine::EMODE {
+        spr[at] = value;
+        return;
+    }
+    if at == Machine::MODE {
+        spr[at] = value;
+    }
+}
