@@ -1,5 +1,5 @@
 -- Document 01, "The run card": the tests of the refusal table that concern a record, by their numbers.
-use Prim.Native.Nat.{ℕ, zero, suc, _+_, _*_, _%_}
+use Prim.Native.Nat.{ℕ, zero, suc, _+_, _-_, _*_, _/_, _%_}
 use mathlib.Core.Bool.{Bool, true, false, not, _&&_, _||_}
 use mathlib.Core.List.{List, [], _∷_}
 use lib.Dec.{eqb, leb, ltb}
@@ -16,6 +16,14 @@ zeros = record { code = record { start = 0; words = 0 }; «data» = record { sta
 -- A region of c words from s holds the addresses a with s <= a < s + 4c
 abbrev pub holds : Region → ℕ → Bool
 holds r a = leb (r .start) a && ltb a (r .start + 4 * r .words)
+
+-- Its word i is at s + 4i: the word of a region's list at an address
+unfoldable pub wordAt : Region → List ℕ → ℕ → ℕ
+wordAt r ws a = getD ws ((a - r .start) / 4) 0
+
+-- Code and data at their addresses, and zero elsewhere: the word at an address
+unfoldable pub image : Region → Region → List ℕ → List ℕ → ℕ → ℕ
+image c d code ws a = pick (holds c a) (wordAt c code a) (pick (holds d a) (wordAt d ws a) 0)
 
 -- The longest code and the longest data, in words
 abbrev pub LONGEST : ℕ

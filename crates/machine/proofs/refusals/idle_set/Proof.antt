@@ -1,14 +1,12 @@
 use Prim.Native.Nat.{_-_, _≤_, _<_}
-use mathlib.Core.Path.{_≡_, refl, sym, ap, _∙_}
 use mathlib.Core.Bool.{false}
+use mathlib.Core.Path.{_≡_, refl, sym, ap, _∙_}
 use native.Mathlib.Omega.{arith}
-use Rattle.machine.specs.Effects.{EMODE}
-use Rattle.machine.specs.Record.{some, idleSet}
 use Rattle.machine.proofs.Special.{some-yes, some-more, loud, loud-yes, loud-not}
 use Rattle.machine.proofs.refusals.idle_set.Statement.{statement}
 use Rattle.machine.proofs.refusals.idle_set.Tie as tie
-use Rattle.machine.proofs.refusals.idle_set.Reads as reads
-use Rattle.machine.proofs.refusals.idle_set.Lts as lts
+use Rattle.machine.specs.Effects.{EMODE}
+use Rattle.machine.specs.Record.{some, idleSet}
 
 abbrev Inv-loop : tie.InvT-loop
 Inv-loop spr n₀ n = (EMODE < n) × (n ≤ 32) × (some (loud spr) n ≡ false)
@@ -16,40 +14,31 @@ Inv-loop spr n₀ n = (EMODE < n) × (n ≤ 32) × (some (loud spr) n ≡ false)
 abbrev μ-loop : tie.MeasureT-loop
 μ-loop spr n₀ n = 32 - n
 
--- src/refusals.rt:95:17
 add-n : tie.Need-add-n Inv-loop μ-loop
 add-n c = omega arith
 
--- src/refusals.rt:96:5
 loop-holds : tie.Need-loop-holds Inv-loop μ-loop
 loop-holds c = (omega arith, omega arith, refl)
 
--- src/refusals.rt:97:12
 mul-if1 : tie.Need-mul-if1 Inv-loop μ-loop
 mul-if1 c = omega arith
 
--- src/refusals.rt:97:12
 element-copy-out-if1 : tie.Need-element-copy-out-if1 Inv-loop μ-loop
 element-copy-out-if1 c = omega arith
 
--- src/refusals.rt:98:13
 returns : tie.Need-returns Inv-loop μ-loop
 unfolding idleSet
 returns c = sym (some-yes (loud (c .before .before .before .before .args .spr .now)) (c .before .before .before .loop .n) 32 (omega arith) (loud-yes (c .before .before .before .before .args .spr .now) (c .before .before .before .loop .n) (c .before .before .before .loop .inv .0) (omega arith) (c .if1 .taken)))
 
--- src/refusals.rt:100:9
 add-n-2 : tie.Need-add-n-2 Inv-loop μ-loop
 add-n-2 c = omega arith
 
--- src/refusals.rt:96:5
 loop-less : tie.Need-loop-less Inv-loop μ-loop
 loop-less c = omega arith
 
--- src/refusals.rt:96:5
 loop-again : tie.Need-loop-again Inv-loop μ-loop
 loop-again c = (omega arith, omega arith, some-more (loud (c .before .before .before .before .args .spr .now)) (c .before .before .before .loop .n) (c .before .before .before .loop .inv .2) (loud-not (c .before .before .before .before .args .spr .now) (c .before .before .before .loop .n) (c .if1 .left)))
 
--- src/refusals.rt:92:1
 returns-2 : tie.Need-returns-2 Inv-loop μ-loop
 unfolding idleSet
 returns-2 c = sym (ap (some (loud (c .before .before .args .spr .now))) (let q : 32 ≡ c .before .loop .n = omega arith in q) ∙ c .before .loop .inv .2)
