@@ -78,7 +78,7 @@ stateOf m = record { dpc = m .dpc; pc = m .pc; gpr = m .gpr; spr = m .spr }
 abbrev pub withState : Machine → State → Machine
 withState m s = record { code = m .code; «data» = m .«data»; limit = m .limit; dpc = s .dpc; pc = s .pc; gpr = s .gpr; spr = s .spr }
 
--- A table of tests with their numbers: the number of the first that holds, 0 where none does
-abbrev pub first : List (Bool × ℕ) → ℕ
-first [] = 0
-first (t ∷ ts) = pick (t .0) (t .1) (first ts)
+-- A table of tests, each with its answer: the answer of the first that holds, and d where none does
+abbrev pub first : {A : Type 0} → List (Bool × A) → A → A
+first [] d = d
+first (t ∷ ts) d = pick (t .0) (t .1) (first ts d)
