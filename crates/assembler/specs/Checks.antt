@@ -116,6 +116,7 @@ foreign w = elim (reading w .1) [ some i ↦ not (runs i) | none ↦ false ]
 -- 26: lw or sw, ea outside the data region
 unfoldable pub outside : Region → Effect → Bool
 outside d e = elim (access e) [ some p ↦ not (holds d (p .1)) | none ↦ false ]
+
 -- 27: movi2s to MODE of a value other than 0 is `modeSet` of the effect
 
 -- The word at DPC, of the code region c

@@ -27,9 +27,10 @@ told v w = pick (ltb v 23) 0 w
 unfoldable pub running : Region → Region → List ℕ → ℕ → ℕ → State × List ℕ → (ℕ × List ℕ) × (State × List ℕ)
 running c d code k zero p = ((0, k ∷ []), p)
 running c d code k (suc n) p =
-    elim (violation c d code (p .0))
-    [ zero ↦ running c d code (suc k) n (next c d code p)
-    | suc v ↦ ((suc v, k ∷ p .0 .dpc ∷ told (suc v) (fetched c code (p .0)) ∷ []), p) ]
+    elim (violation c d code (p .0)) [
+      | zero ↦ running c d code (suc k) n (next c d code p)
+      | suc v ↦ ((suc v, k ∷ p .0 .dpc ∷ told (suc v) (fetched c code (p .0)) ∷ []), p)
+    ]
 
 -- 1: a lent buffer has the wrong length: code 1,024 words, data 1,024 words
 abbrev pub wrongLength : List ℕ → List ℕ → Bool

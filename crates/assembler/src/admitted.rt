@@ -1,7 +1,6 @@
 // The twenty instructions that the assembler machine runs.
 ghost use mathlib.Core.Path.{_≡_};
 ghost use Rattle.assembler.specs.Checks.{runs, runsShift, runsRegister, runsImmediate, runsCompare, runsLoad, runsStore};
-
 use words::Arithmetic;
 use words::Comparison;
 use words::Instruction;

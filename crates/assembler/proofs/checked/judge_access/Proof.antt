@@ -1,0 +1,25 @@
+use borrow.Author.Needs.{needs}
+use Rattle.assembler.proofs.checked.judge_access.Statement.{statement}
+use Rattle.assembler.proofs.checked.judge_access.Tie as tie
+use Rattle.assembler.proofs.checked.judge_access.Reads as reads
+use Rattle.assembler.proofs.checked.judge_access.Lts as lts
+use Rattle.machine.proofs.refusals.contains.Reads as contains-reads
+
+-- src/checked.rt:89:9
+returns : tie.Need-returns
+returns c = search needs
+
+-- src/checked.rt:91:9
+contains-requires : tie.Need-contains-requires
+contains-requires c κs = search needs
+
+-- src/checked.rt:92:9
+returns-2 : tie.Need-returns-2
+returns-2 c = ?
+
+-- src/checked.rt:85:1
+returns-3 : tie.Need-returns-3
+returns-3 c = ?
+
+pub judge-access-spec : {M : Type 1} → statement M
+judge-access-spec = tie.close (tie.spec returns contains-requires returns-2 returns-3)
