@@ -1,4 +1,4 @@
-// Each immediate at each boundary of its range, and each register and SA at 31, 32 and 255, once for each syntax.
+// Each immediate at each boundary of its range, and each register and SA at 31, 32 and 255, for one instruction of each group.
 use crate::fields::NONE;
 use crate::fields::RD_OF_I;
 use crate::fields::RS1;

@@ -20,13 +20,12 @@ pub fn all() {
     shifts();
     moves();
     arithmetic();
-    halves();
-    comparisons();
+    tests();
     jumps();
     branches();
     arithmetic_immediates();
     register_jumps();
-    comparison_immediates();
+    test_immediates();
     loads();
     stores();
 }
@@ -49,7 +48,7 @@ fn moves() {
     both_lines(Instruction::Movi2s(16, 1), RS2 | RD_OF_R);
 }
 
-// addo, add, subo, sub, and, or, xor.
+// addo, add, subo, sub, and, or, xor, lhg.
 fn arithmetic() {
     both_lines(
         Instruction::ArithmeticRegister(Arithmetic::Addo, 2, 1, 31),
@@ -79,16 +78,12 @@ fn arithmetic() {
         Instruction::ArithmeticRegister(Arithmetic::Xor, 2, 1, 31),
         SA,
     );
-}
-
-// lhg, clr.
-fn halves() {
     both_lines(Instruction::Lhg(2, 1), RS2 | SA);
-    both_lines(Instruction::Clr(2), RS1 | RS2 | SA);
 }
 
-// sgr, seq, sge, sls, sne, sle, set.
-fn comparisons() {
+// clr, sgr, seq, sge, sls, sne, sle, set.
+fn tests() {
+    both_lines(Instruction::Clr(2), RS1 | RS2 | SA);
     both_lines(Instruction::CompareRegister(Comparison::Sgr, 2, 1, 31), SA);
     both_lines(Instruction::CompareRegister(Comparison::Seq, 2, 1, 31), SA);
     both_lines(Instruction::CompareRegister(Comparison::Sge, 2, 1, 31), SA);
@@ -145,15 +140,15 @@ fn arithmetic_immediates() {
     both_lines(Instruction::Lhgi(2, -4660), RS1);
 }
 
-// jr, jalr, clri.
+// jr, jalr.
 fn register_jumps() {
     both_lines(Instruction::Jr(1), RD_OF_I | IMM_OF_I);
     both_lines(Instruction::Jalr(1), RD_OF_I | IMM_OF_I);
-    both_lines(Instruction::Clri(2), RS1 | IMM_OF_I);
 }
 
-// sgri, seqi, sgei, slsi, snei, slei, seti.
-fn comparison_immediates() {
+// clri, sgri, seqi, sgei, slsi, snei, slei, seti.
+fn test_immediates() {
+    both_lines(Instruction::Clri(2), RS1 | IMM_OF_I);
     both_lines(
         Instruction::CompareImmediate(Comparison::Sgr, 2, 1, -4660),
         NONE,
