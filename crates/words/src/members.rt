@@ -1,12 +1,10 @@
 // The members of the groups, by their numbers. Each group's two forms have the same order, so one function serves both.
 ghost use mathlib.Core.Path.{_≡_};
 ghost use Prim.Native.Nat.{_≤_};
-ghost use Rattle.words.specs.Words.{shiftImmediateNo, arithmeticImmediateNo, compareImmediateNo, loadNo, storeNo};
+ghost use Rattle.words.specs.Words.{shiftImmediateNo, arithmeticImmediateNo, compareImmediateNo};
 use crate::Arithmetic;
 use crate::Comparison;
-use crate::LoadKind;
 use crate::Shift;
-use crate::StoreKind;
 
 // The shift with the function number of its immediate form.
 pub fn shift_of(number: u32) -> Shift
