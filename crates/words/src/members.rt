@@ -7,7 +7,7 @@ use crate::Comparison;
 use crate::Shift;
 
 // The shift with the function number of its immediate form.
-pub fn shift_of(number: u32) -> Shift
+pub(crate) fn shift_of(number: u32) -> Shift
     requires { ⌜ number ≤ 0x03 ⌝ }
     ensures { λ r. ⌜ shiftImmediateNo r ≡ number ⌝ }
 {
@@ -20,7 +20,7 @@ pub fn shift_of(number: u32) -> Shift
 }
 
 // The operation with the opcode of its immediate form.
-pub fn arithmetic_of(number: u32) -> Arithmetic
+pub(crate) fn arithmetic_of(number: u32) -> Arithmetic
     requires { ⌜ (0x08 ≤ number) × (number ≤ 0x0E) ⌝ }
     ensures { λ r. ⌜ arithmeticImmediateNo r ≡ number ⌝ }
 {
@@ -36,7 +36,7 @@ pub fn arithmetic_of(number: u32) -> Arithmetic
 }
 
 // The comparison with the opcode of its immediate form.
-pub fn comparison_of(number: u32) -> Comparison
+pub(crate) fn comparison_of(number: u32) -> Comparison
     requires { ⌜ (0x19 ≤ number) × (number ≤ 0x1E) ⌝ }
     ensures { λ r. ⌜ compareImmediateNo r ≡ number ⌝ }
 {
