@@ -8,7 +8,7 @@ use words::LoadKind;
 use words::Shift;
 use words::StoreKind;
 
-pub fn admits(instruction: Instruction) -> bool
+pub(crate) fn admits(instruction: Instruction) -> bool
     ensures { λ r. ⌜ r ≡ runs instruction ⌝ }
 {
     match instruction {

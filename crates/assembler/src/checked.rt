@@ -18,13 +18,13 @@ use machine::sizes::store_askew;
 use words::Reading;
 
 // A step taken, with the new counters, or stopped, with the number of the test and the word.
-pub enum Moved {
+pub(crate) enum Moved {
     On(u32, u32),
     Stopped(u32, u32),
 }
 
 // One step: it changes the registers and the data where no test is broken, and nothing otherwise.
-pub fn step(
+pub(crate) fn step(
     fetches: Region,
     accesses: Region,
     dpc: u32,
