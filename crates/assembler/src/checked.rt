@@ -43,7 +43,8 @@ pub(crate) fn step(
     if !contains(fetches, dpc) {
         return Moved::Stopped(22, 0);
     }
-    let at = ((dpc - fetches.start) / 4) as usize;
+    let start = fetches.start;
+    let at = ((dpc - start) / 4) as usize;
     let word = code[at];
     let reading = words::read(word);
     match reading {
@@ -112,16 +113,17 @@ fn access(effect: Effect, region: Region, words: &mut [u32]) -> u32
     requires { ⌜ Room region (now words) × (outside region effect ≡ false) ⌝ }
     ensures { λ r. ⌜ (r ≡ found region (now (words .entry)) effect) × (now (words .exit) ≡ left region (now (words .entry)) effect) ⌝ }
 {
+    let start = region.start;
     match effect {
         Effect::Put(_, _) => 0,
         Effect::PutSpecial(_, _) => 0,
         Effect::Sum(_, _, _) => 0,
         Effect::Load(_, _, ea) => {
-            let at = ((ea - region.start) / 4) as usize;
+            let at = ((ea - start) / 4) as usize;
             words[at]
         }
         Effect::Store(_, ea, value) => {
-            let at = ((ea - region.start) / 4) as usize;
+            let at = ((ea - start) / 4) as usize;
             words[at] = value;
             0
         }
