@@ -1,1 +1,3 @@
 pub mod Tests
+pub mod Fold
+pub mod Refusals

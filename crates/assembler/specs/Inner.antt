@@ -11,7 +11,8 @@ use Rattle.machine.specs.Record.{holds, first}
 use Rattle.assembler.specs.declared.checked.Moved.{Moved}
 use Rattle.assembler.specs.declared.checked.Moved.the-variants.{On, Stopped}
 use Rattle.assembler.specs.Checks.{fetched, violation, next}
-use Rattle.assembler.specs.Runs.{told}
+use Rattle.assembler.specs.declared.running.Ran.{Ran}
+use Rattle.assembler.specs.Runs.{told, verdictAnswer, running}
 
 -- A region lies in its list
 abbrev pub Room : Region → List ℕ → Type 0
@@ -32,3 +33,9 @@ accessNumber t r a = first ((t, 25) ∷ (not (holds r a), 26) ∷ []) 0
 
 abbrev pub modeNumber : ℕ → ℕ → ℕ
 modeNumber n x = first ((eqb n MODE && not (eqb x 0), 27) ∷ []) 0
+
+-- A run that ended: its answer, state and data are those of the definition
+abbrev pub Ended : Region → Region → List ℕ → ℕ → ℕ → ℕ → List ℕ → List ℕ → List ℕ → Ran → List ℕ → List ℕ → List ℕ → Type 0
+Ended c d code n dpc pc g p ws r g′ p′ ws′ =
+    (verdictAnswer (r .verdict), (record { dpc = r .dpc; pc = r .pc; gpr = g′; spr = p′ }, ws′))
+    ≡ running c d code 0 n (record { dpc = dpc; pc = pc; gpr = g; spr = p }, ws)

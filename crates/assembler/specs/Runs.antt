@@ -33,11 +33,11 @@ running c d code k (suc n) p =
     ]
 
 -- 1: a lent buffer has the wrong length: code 1,024 words, data 1,024 words
-abbrev pub wrongLength : List ℕ → List ℕ → Bool
-wrongLength code ws = not (eqb (length code) LONGEST) || not (eqb (length ws) LONGEST)
+abbrev pub wrongLength : ℕ → ℕ → Bool
+wrongLength code ws = not (eqb code LONGEST) || not (eqb ws LONGEST)
 
--- The tests of the refusal table that concern a record, in its order; a single step ignores test 12
-abbrev pub stepRefusal : Machine → List ℕ → List ℕ → ℕ
+-- The tests of the refusal table that concern a record and the lengths of its buffers, in the table's order; a single step ignores test 12
+unfoldable pub stepRefusal : Machine → ℕ → ℕ → ℕ
 stepRefusal m code ws =
     first
     ((wrongLength code ws, 1)
@@ -48,8 +48,17 @@ stepRefusal m code ws =
     ∷ (notZero m, 11)
     ∷ []) 0
 
-abbrev pub runRefusal : Machine → List ℕ → List ℕ → ℕ
-runRefusal m code ws = first ((not (eqb (stepRefusal m code ws) 0), stepRefusal m code ws) ∷ (overLimit m, 12) ∷ []) 0
+unfoldable pub runRefusal : Machine → ℕ → ℕ → ℕ
+runRefusal m code ws =
+    first
+    ((wrongLength code ws, 1)
+    ∷ (wrongCount m, 6)
+    ∷ (oddStart m, 8)
+    ∷ (pastMemory m, 9)
+    ∷ (overlap m, 10)
+    ∷ (notZero m, 11)
+    ∷ (overLimit m, 12)
+    ∷ []) 0
 
 -- Answer, record and data of a call that takes at most n steps, r being its refusal: refused, nothing changes
 unfoldable pub taking : ℕ → ℕ → Machine → List ℕ → List ℕ → (ℕ × List ℕ) × Machine × List ℕ
@@ -60,7 +69,7 @@ taking (suc r) n m code ws = ((suc r, []), m, ws)
 
 -- One step, and a run to the limit
 abbrev pub stepping : Machine → List ℕ → List ℕ → (ℕ × List ℕ) × Machine × List ℕ
-stepping m code ws = taking (stepRefusal m code ws) 1 m code ws
+stepping m code ws = taking (stepRefusal m (length code) (length ws)) 1 m code ws
 
-abbrev pub run : Machine → List ℕ → List ℕ → (ℕ × List ℕ) × Machine × List ℕ
-run m code ws = taking (runRefusal m code ws) (m .limit) m code ws
+abbrev pub runs : Machine → List ℕ → List ℕ → (ℕ × List ℕ) × Machine × List ℕ
+runs m code ws = taking (runRefusal m (length code) (length ws)) (m .limit) m code ws
