@@ -15,8 +15,8 @@ use Rattle.assembler.specs.Runs.{wrongLength, stepRefusal, runRefusal, t
 -- Over any outcome of the tests
 tables : (a b c d e f g : Bool)
     → _≡_ {A = ℕ} (first ((a, 1) ∷ (b, 6) ∷ (c, 8) ∷ (d, 9) ∷ (e, 10) ∷ (f, 11) ∷ (g, 12) ∷ []) 0)
-      (pick (eqb (first ((a, 1) ∷ (b, 6) ∷ (c, 8) ∷ (d, 9) ∷ (e, 10) ∷ (f, 11) ∷ []) 0) 0) (pick g 12 0)
-      (first ((a, 1) ∷ (b, 6) ∷ (c, 8) ∷ (d, 9) ∷ (e, 10) ∷ (f, 11) ∷ []) 0))
+    (pick (eqb (first ((a, 1) ∷ (b, 6) ∷ (c, 8) ∷ (d, 9) ∷ (e, 10) ∷ (f, 11) ∷ []) 0) 0) (pick g 12 0)
+    (first ((a, 1) ∷ (b, 6) ∷ (c, 8) ∷ (d, 9) ∷ (e, 10) ∷ (f, 11) ∷ []) 0))
 tables true b c d e f g = refl
 tables false true c d e f g = refl
 tables false false true d e f g = refl

@@ -1,16 +1,13 @@
+use Prim.Native.Nat.{_-_, _≤_}
 use borrow.Author.Needs.{needs}
-use Prim.Native.Nat.{ℕ, _+_, _-_, _≤_, _<_}
-use mathlib.Core.Path.{_≡_, refl, sym, ap, _∙_}
-use native.Mathlib.Nat.{sub-zero, sub-self}
-use native.Mathlib.Omega.{arith}
 use lib.ListN.{length}
-use Rattle.assembler.specs.Runs.{running}
+use mathlib.Core.Path.{_≡_, refl, sym, _∙_}
+use native.Mathlib.Nat.{sub-zero}
+use native.Mathlib.Omega.{arith}
 use Rattle.assembler.proofs.Fold.{goes-on, stopped, run-end}
 use Rattle.assembler.proofs.running.go.Statement.{statement}
 use Rattle.assembler.proofs.running.go.Tie as tie
-use Rattle.assembler.proofs.running.go.Reads as reads
-use Rattle.assembler.proofs.running.go.Lts as lts
-use Rattle.assembler.proofs.checked.step.Reads as step-reads
+use Rattle.assembler.specs.Runs.{running}
 
 abbrev Inv-loop : tie.InvT-loop
 Inv-loop fetches accesses limit dpc pc gpr₀ spr₀ code words₀ taken₀ here₀ next₀ gpr spr words taken here next =
@@ -23,47 +20,36 @@ abbrev μ-loop : tie.MeasureT-loop
 μ-loop fetches accesses limit dpc pc gpr₀ spr₀ code words₀ taken₀ here₀ next₀ gpr spr words taken here next =
     limit - taken
 
--- src/running.rt:33:5
 loop-holds : tie.Need-loop-holds Inv-loop μ-loop
 loop-holds c = (omega arith, refl, rw sub-zero)
 
--- src/running.rt:34:13
 step-requires : tie.Need-step-requires Inv-loop μ-loop
 step-requires c κs = (c .before .before .before .before .before .before .before .pre .0, let q = c .before .before .before .before .loop .inv .1 in omega arith)
 
--- src/running.rt:36:23
 enum-known-moved : tie.Need-enum-known-moved Inv-loop μ-loop
 enum-known-moved c = search needs
 
--- src/running.rt:39:17
 add-taken : tie.Need-add-taken Inv-loop μ-loop
 add-taken c = omega arith
 
--- src/running.rt:33:5
 loop-less : tie.Need-loop-less Inv-loop μ-loop
 loop-less c = omega arith
 
--- src/running.rt:33:5
 loop-again : tie.Need-loop-again Inv-loop μ-loop
 loop-again c = (omega arith, c .before .before .before .before .before .step .kept .1 .1 .1 .1 .1 .1 .1 .0 ∙ c .before .before .before .before .before .before .before .before .before .before .loop .inv .1, (let e = (rw (c .before .moved .given .1) at (c .before .before .before .before .before .step .ensures)) in goes-on (c .before .before .before .before .before .before .before .before .before .before .before .before .before .args .fetches) (c .before .before .before .before .before .before .before .before .before .before .before .before .before .args .accesses) (c .before .before .before .before .before .before .before .before .before .before .before .before .before .args .code .now) (record { dpc = c .before .before .before .before .before .before .before .before .before .before .loop .here; pc = c .before .before .before .before .before .before .before .before .before .before .loop .next; gpr = c .before .before .before .before .before .before .before .before .before .before .loop .gpr; spr = c .before .before .before .before .before .before .before .before .before .before .loop .spr }, c .before .before .before .before .before .before .before .before .before .before .loop .words) (c .before .before .before .before .before .before .before .before .before .before .loop .taken) (c .before .before .before .before .before .before .before .before .before .before .before .before .before .args .limit) (c .before .before .before .before .before .before .before .before .before .loop-test .taken) (e .0) _ (e .1) ∙ c .before .before .before .before .before .before .before .before .before .before .loop .inv .2))
 
--- src/running.rt:41:28
 enum-known-moved-2 : tie.Need-enum-known-moved-2 Inv-loop μ-loop
 enum-known-moved-2 c = search needs
 
--- src/running.rt:42:17
 same-length : tie.Need-same-length Inv-loop μ-loop
 same-length c = c .before .before .before .before .before .step .kept .1 .1 .1 .1 .1 .1 .1 .0 ∙ c .before .before .before .before .before .before .before .before .before .before .loop .inv .1
 
--- src/running.rt:42:17
 returns : tie.Need-returns Inv-loop μ-loop
 returns c = (let e = (rw (c .before .moved2 .given .1) at (c .before .before .before .before .before .step .ensures)) in stopped (c .before .before .before .before .before .before .before .before .before .before .before .before .before .args .fetches) (c .before .before .before .before .before .before .before .before .before .before .before .before .before .args .accesses) (c .before .before .before .before .before .before .before .before .before .before .before .before .before .args .code .now) (record { dpc = c .before .before .before .before .before .before .before .before .before .before .loop .here; pc = c .before .before .before .before .before .before .before .before .before .before .loop .next; gpr = c .before .before .before .before .before .before .before .before .before .before .loop .gpr; spr = c .before .before .before .before .before .before .before .before .before .before .loop .spr }, c .before .before .before .before .before .before .before .before .before .before .loop .words) (c .before .before .before .before .before .before .before .before .before .before .loop .taken) (c .before .before .before .before .before .before .before .before .before .before .before .before .before .args .limit) (c .before .before .before .before .before .before .before .before .before .loop-test .taken) _ _ _ _ _ (e .0) (e .1) (e .2) (e .3) (e .4) (e .5) ∙ c .before .before .before .before .before .before .before .before .before .before .loop .inv .2)
 
--- src/running.rt:16:1
 same-length-2 : tie.Need-same-length-2 Inv-loop μ-loop
 same-length-2 c = c .before .loop .inv .1
 
--- src/running.rt:16:1
 returns-2 : tie.Need-returns-2 Inv-loop μ-loop
 returns-2 c = (let z : c .before .before .before .before .args .limit - c .before .loop .taken ≡ 0 = omega arith in sym (run-end (c .before .before .before .before .args .fetches) (c .before .before .before .before .args .accesses) (c .before .before .before .before .args .code .now) (record { dpc = c .before .loop .here; pc = c .before .loop .next; gpr = c .before .loop .gpr; spr = c .before .loop .spr }, c .before .loop .words) (c .before .loop .taken)) ∙ (rw z at (c .before .loop .inv .2)))
 
