@@ -1,3 +1,4 @@
 pub mod Tests
 pub mod Fold
 pub mod Refusals
+pub mod Theorems

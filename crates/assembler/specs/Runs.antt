@@ -32,6 +32,11 @@ running c d code k (suc n) p =
       | suc v ↦ ((suc v, k ∷ p .0 .dpc ∷ told (suc v) (fetched c code (p .0)) ∷ []), p)
     ]
 
+-- State and data after k steps: the step k times
+unfoldable pub after : Region → Region → List ℕ → ℕ → State × List ℕ → State × List ℕ
+after c d code zero p = p
+after c d code (suc k) p = after c d code k (next c d code p)
+
 -- 1: a lent buffer has the wrong length: code 1,024 words, data 1,024 words
 abbrev pub wrongLength : ℕ → ℕ → Bool
 wrongLength code ws = not (eqb code LONGEST) || not (eqb ws LONGEST)
