@@ -5,7 +5,8 @@ use mathlib.Core.Path.{_≡_, refl, sym, ap, _∙_}
 use mathlib.Core.Bool.{Bool, true, false, not}
 use mathlib.Core.List.{List, [], _∷_}
 use mathlib.Core.Option.{Option, none, some}
-use borrow.Author.Tests.{not-false, eq-eqb, ne-eqb}
+use borrow.Author.Tests.{not-false, eq-eqb, ne-eqb, eqb-true}
+use lib.Dec.{eqb}
 use Rattle.words.specs.declared.LoadKind.{LoadKind}
 use Rattle.words.specs.declared.StoreKind.{StoreKind}
 use Rattle.machine.specs.declared.Effect.{Effect}
@@ -89,3 +90,39 @@ none-broken true q r e = absurd (omega arith)
 none-broken false true r e = absurd (omega arith)
 none-broken false false true e = absurd (omega arith)
 none-broken false false false e = (refl, refl, refl)
+
+-- A step that breaks no test: what each test says
+seven : (a b c d e f g : Bool) → _≡_ {A = ℕ} (first ((a, 21) ∷ (b, 22) ∷ (c, 23) ∷ (d, 24) ∷ (e, 25) ∷ (f, 26) ∷ (g, 27) ∷ []) 0) 0
+    → (a ≡ false) × (b ≡ false) × (c ≡ false) × (d ≡ false) × (e ≡ false) × (f ≡ false) × (g ≡ false)
+seven true b c d e f g z = absurd (omega arith)
+seven false true c d e f g z = absurd (omega arith)
+seven false false true d e f g z = absurd (omega arith)
+seven false false false true e f g z = absurd (omega arith)
+seven false false false false true f g z = absurd (omega arith)
+seven false false false false false true g z = absurd (omega arith)
+seven false false false false false false true z = absurd (omega arith)
+seven false false false false false false false z = (refl, refl, refl, refl, refl, refl, refl)
+
+pub record Passes (c d : Region) (code : List ℕ) (s : State) : Type 0 where
+  pub aligned : s .dpc % 4 ≡ 0
+  pub within : holds c (s .dpc) ≡ true
+  pub legal : illegal (fetched c code s) ≡ false
+  pub own : foreign (fetched c code s) ≡ false
+  pub even : askew (act (fetched c code s) s .0) ≡ false
+  pub inside : outside d (act (fetched c code s) s .0) ≡ false
+  pub calm : modeSet (act (fetched c code s) s .0) ≡ false
+
+pub passes : (c d : Region) (code : List ℕ) (s : State) → violation c d code s ≡ 0 → Passes c d code s
+unfolding violation
+passes c d code s z =
+    let w = fetched c code s in
+    let e = act w s .0 in
+    let p = seven (not (eqb (s .dpc % 4) 0)) (not (holds c (s .dpc))) (illegal w) (foreign w) (askew e) (outside d e) (modeSet e) z in
+    record
+    { aligned = eqb-true (s .dpc % 4) 0 (not-false (eqb (s .dpc % 4) 0) (p .0))
+    ; within = not-false (holds c (s .dpc)) (p .1)
+    ; legal = p .2
+    ; own = p .3
+    ; even = p .4
+    ; inside = p .5
+    ; calm = p .6 }

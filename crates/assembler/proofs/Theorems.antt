@@ -2,18 +2,22 @@
 use Prim.Native.Nat.{ℕ, zero, suc, _+_, _≤_, _<_}
 use mathlib.Core.Path.{_≡_, refl, sym, ap, _∙_}
 use mathlib.Core.List.{List, [], _∷_}
+use mathlib.Core.Bool.{false}
 use mathlib.Core.Logic.{_⊎_, inl, inr}
 use lib.ListN.{getD, length}
 use native.Mathlib.Nat.{add-zero}
 use native.Mathlib.Omega.{arith}
 use Rattle.machine.specs.declared.Machine.{Machine}
 use Rattle.machine.specs.declared.Region.{Region}
-use Rattle.machine.specs.Effects.{State}
-use Rattle.assembler.specs.Checks.{fetched, violation, next}
+use Rattle.machine.specs.Effects.{State, act}
+use Rattle.machine.specs.Record.{notZero, stateOf}
+use Rattle.machine.proofs.Quiet.{Quiet, quiet-moved, quiet-record, record-quiet}
+use Rattle.assembler.specs.Checks.{fetched, violation, next, found}
 use Rattle.assembler.specs.Runs.{running, told, after, taking, verdictAnswer, stepping, runs}
 use Rattle.assembler.specs.declared.Verdict.{Verdict}
 use Rattle.assembler.specs.declared.Verdict.the-variants.{Refused, Accepted, Violation}
 use Rattle.assembler.proofs.Fold.{run-on, run-stop}
+use Rattle.assembler.proofs.Tests.{passes}
 
 module _ (c d : Region) (code : List ℕ) where
   -- The first k steps break no test
@@ -102,6 +106,30 @@ pub keeps : (r n : ℕ) (m : Machine) (code ws : List ℕ)
 unfolding taking
 keeps zero n m code ws = (refl, refl, refl)
 keeps (suc r) n m code ws = (refl, refl, refl)
+
+-- R0, the unused special registers and MODE stay 0 through every accepted step, so that test 11 never fires on a record handed back
+module _ (c d : Region) (code : List ℕ) where
+  pub quiet-next : (p : State × List ℕ) → violation c d code (p .0) ≡ 0 → Quiet (p .0 .gpr) (p .0 .spr)
+      → Quiet (next c d code p .0 .gpr) (next c d code p .0 .spr)
+  unfolding next
+  quiet-next p e q = quiet-moved (fetched c code (p .0)) (found d (p .1) (act (fetched c code (p .0)) (p .0) .0)) (p .0) (passes c d code (p .0) e .calm) q
+
+  quiet-running : (k n : ℕ) (p : State × List ℕ) → Quiet (p .0 .gpr) (p .0 .spr)
+      → Quiet (running c d code k n p .1 .0 .gpr) (running c d code k n p .1 .0 .spr)
+  unfolding running
+  quiet-running k zero p q = q
+  quiet-running k (suc n) p q = by (violation c d code (p .0)) refl (quiet-running (suc k) n (next c d code p))
+    where
+      by : (v : ℕ) → violation c d code (p .0) ≡ v
+          → (Quiet (next c d code p .0 .gpr) (next c d code p .0 .spr) → Quiet (running c d code (suc k) n (next c d code p) .1 .0 .gpr) (running c d code (suc k) n (next c d code p) .1 .0 .spr))
+          → Quiet (running c d code k (suc n) p .1 .0 .gpr) (running c d code k (suc n) p .1 .0 .spr)
+      by zero e rest = rw (run-on c d code p k n e) (rest (quiet-next p e q))
+      by (suc v) e rest = rw (run-stop c d code p k n (suc v) e (omega arith)) q
+
+pub handed-back : (r n : ℕ) (m : Machine) (code ws : List ℕ) → notZero m ≡ false → notZero (taking r n m code ws .1) ≡ false
+unfolding taking
+handed-back zero n m code ws e = record-quiet (taking zero n m code ws .1) (quiet-running (m .code) (m .«data») code 0 n (stateOf m, ws) (quiet-record m e))
+handed-back (suc r) n m code ws e = e
 
 -- ---- Two results that meet a promise are equal
 

@@ -1,3 +1,4 @@
 pub mod Integers
 pub mod Special
 pub mod Holding
+pub mod Quiet
