@@ -2,3 +2,4 @@ pub mod Tests
 pub mod Fold
 pub mod Refusals
 pub mod Theorems
+pub mod Beyond
