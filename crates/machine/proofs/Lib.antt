@@ -2,3 +2,4 @@ pub mod Integers
 pub mod Special
 pub mod Holding
 pub mod Quiet
+pub mod Hand
