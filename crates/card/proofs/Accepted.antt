@@ -62,7 +62,7 @@ module _ (card : List ℕ) (code words memory : ℕ) where
         version = t4 .0;
         reserved = t5 .0;
         size = t7 .0;
-        passes = record { counts = t6 .0; starts = t8 .0; within = t9 .0; apart = t10 .0; zero = t11 .0; limit = t12 .0 }
+        passes = record { counts = t6 .0; starts = t8 .0; within = t9 .0; apart = t10 .0; zero = t11 .0; limit = t12 .0 };
       }
 
   -- The other way round
@@ -75,10 +75,11 @@ module _ (card : List ℕ) (code words memory : ℕ) where
 pub right-length : (code words memory : ℕ) → wrongLength code words memory ≡ false → (code ≡ LONGEST) × (words ≡ LONGEST) × (memory ≡ DOUBLES)
 unfolding wrongLength
 right-length code words memory e =
-    let a = either-left (not (eqb code LONGEST) || not (eqb words LONGEST)) (not (eqb memory DOUBLES)) e in
-    (eqb-true code LONGEST (not-false (eqb code LONGEST) (either-left (not (eqb code LONGEST)) (not (eqb words LONGEST)) a))
-    , eqb-true words LONGEST (not-false (eqb words LONGEST) (either-right (not (eqb code LONGEST)) (not (eqb words LONGEST)) a))
-    , eqb-true memory DOUBLES (not-false (eqb memory DOUBLES) (either-right (not (eqb code LONGEST) || not (eqb words LONGEST)) (not (eqb memory DOUBLES)) e)))
+    let a = either-left (not (eqb code LONGEST) || not (eqb words LONGEST)) (not (eqb memory DOUBLES)) e in (
+      eqb-true code LONGEST (not-false (eqb code LONGEST) (either-left (not (eqb code LONGEST)) (not (eqb words LONGEST)) a)),
+      eqb-true words LONGEST (not-false (eqb words LONGEST) (either-right (not (eqb code LONGEST)) (not (eqb words LONGEST)) a)),
+      eqb-true memory DOUBLES (not-false (eqb memory DOUBLES) (either-right (not (eqb code LONGEST) || not (eqb words LONGEST)) (not (eqb memory DOUBLES)) e)),
+    )
 
 pub right-size : (n : ℕ) (m : Machine) → wrongSize n m ≡ false → n ≡ BODY + 4 * (m .code .words + m .«data» .words)
 unfolding wrongSize
@@ -95,5 +96,5 @@ room card code ws memory e =
       memory-length = l .2;
       size = right-size (length card) (recordOf card) (a .size);
       code-words = k .1;
-      data-words = k .2
+      data-words = k .2;
     }

@@ -50,7 +50,7 @@ filling-more f {d₀} {d} {i} v p l e =
       kept = length-set d i v ∙ p .kept;
       filled =
           rw (add-one i, p .filled, e, drop-cons d₀ i 0 l)
-          (set-at (tab f i) (getD d₀ i 0) (drop (suc i) d₀) (f i) i (tab-length f i) ∙ sym (append-assoc (tab f i) (f i ∷ []) (drop (suc i) d₀)))
+          (set-at (tab f i) (getD d₀ i 0) (drop (suc i) d₀) (f i) i (tab-length f i) ∙ sym (append-assoc (tab f i) (f i ∷ []) (drop (suc i) d₀)));
     }
 
 pub filling-all : (f : ℕ → ℕ) {d₀ d : List ℕ} {i : ℕ} (n : ℕ) → Filling f d₀ d i → length d₀ ≡ n → n ≤ i → d ≡ tab f n

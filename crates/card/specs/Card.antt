@@ -43,7 +43,7 @@ recordOf card =
       pc = number32 card 28;
       limit = number32 card 32;
       gpr = numbers card 36 32;
-      spr = numbers card 164 32
+      spr = numbers card 164 32;
     }
 
 -- 292: the C code words, then the D data words

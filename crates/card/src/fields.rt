@@ -8,12 +8,19 @@ use machine::Region;
 
 // Where the fields stand.
 pub const VERSION: usize = 3;
+
 pub const CODE: usize = 8;
+
 pub const DATA: usize = 16;
+
 pub const DPC: usize = 24;
+
 pub const PC: usize = 28;
+
 pub const LIMIT: usize = 32;
+
 pub const GENERAL: usize = 36;
+
 pub const SPECIAL: usize = 164;
 // The code words, then the data words.
 pub const BODY: usize = 292;
@@ -38,7 +45,10 @@ pub fn number32(card: &[u8], at: usize) -> u32
     requires { ⌜ at + 4 ≤ length (now card) ⌝ }
     ensures { λ r. ⌜ r ≡ number32 (now (card .entry)) at ⌝ }
 {
-    wide(card[at]) + 256 * wide(card[at + 1]) + 65536 * wide(card[at + 2]) + 16777216 * wide(card[at + 3])
+    wide(card[at])
+        + 256 * wide(card[at + 1])
+        + 65536 * wide(card[at + 2])
+        + 16777216 * wide(card[at + 3])
 }
 
 // The 32 registers from an offset on.
@@ -60,8 +70,14 @@ pub fn record_of(card: &[u8]) -> Machine
     requires { ⌜ BODY ≤ length (now card) ⌝ }
     ensures { λ r. ⌜ r ≡ recordOf (now (card .entry)) ⌝ }
 {
-    let code = Region { start: number32(card, CODE), words: number32(card, CODE + 4) };
-    let data = Region { start: number32(card, DATA), words: number32(card, DATA + 4) };
+    let code = Region {
+        start: number32(card, CODE),
+        words: number32(card, CODE + 4),
+    };
+    let data = Region {
+        start: number32(card, DATA),
+        words: number32(card, DATA + 4),
+    };
     let gpr = registers(card, GENERAL);
     let spr = registers(card, SPECIAL);
     Machine {

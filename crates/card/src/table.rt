@@ -17,6 +17,7 @@ use machine::refusals::wrong_count;
 
 // The lengths of the lent buffers.
 const WORDS: usize = 1024;
+
 const DOUBLES: usize = 2048;
 
 // The number of the first test that holds, 0 where none does.

@@ -37,29 +37,33 @@ either-right false b e = e
 module _ (m : Machine) where
   pub right-count : wrongCount m ≡ false → (m .code .words ≡ 0 → ⊥) × (m .code .words ≤ LONGEST) × (m .«data» .words ≤ LONGEST)
   unfolding wrongCount
-  right-count e =
-      (eqb-false (m .code .words) 0 (either-left (eqb (m .code .words) 0) _ (either-left (eqb (m .code .words) 0 || ltb LONGEST (m .code .words)) _ e))
-      , ltb-false LONGEST (m .code .words) (either-right (eqb (m .code .words) 0) _ (either-left (eqb (m .code .words) 0 || ltb LONGEST (m .code .words)) _ e))
-      , ltb-false LONGEST (m .«data» .words) (either-right (eqb (m .code .words) 0 || ltb LONGEST (m .code .words)) _ e))
+  right-count e = (
+    eqb-false (m .code .words) 0 (either-left (eqb (m .code .words) 0) _ (either-left (eqb (m .code .words) 0 || ltb LONGEST (m .code .words)) _ e)),
+    ltb-false LONGEST (m .code .words) (either-right (eqb (m .code .words) 0) _ (either-left (eqb (m .code .words) 0 || ltb LONGEST (m .code .words)) _ e)),
+    ltb-false LONGEST (m .«data» .words) (either-right (eqb (m .code .words) 0 || ltb LONGEST (m .code .words)) _ e),
+  )
 
   pub even-starts : oddStart m ≡ false → (m .code .start % 4 ≡ 0) × (m .«data» .start % 4 ≡ 0)
   unfolding oddStart
-  even-starts e =
-      (eqb-true (m .code .start % 4) 0 (not-false (eqb (m .code .start % 4) 0) (either-left (not (eqb (m .code .start % 4) 0)) _ e))
-      , eqb-true (m .«data» .start % 4) 0 (not-false (eqb (m .«data» .start % 4) 0) (either-right (not (eqb (m .code .start % 4) 0)) _ e)))
+  even-starts e = (
+    eqb-true (m .code .start % 4) 0 (not-false (eqb (m .code .start % 4) 0) (either-left (not (eqb (m .code .start % 4) 0)) _ e)),
+    eqb-true (m .«data» .start % 4) 0 (not-false (eqb (m .«data» .start % 4) 0) (either-right (not (eqb (m .code .start % 4) 0)) _ e)),
+  )
 
   pub in-memory : pastMemory m ≡ false → (m .code .start + 4 * m .code .words ≤ MEMORY) × (m .«data» .start + 4 * m .«data» .words ≤ MEMORY)
   unfolding pastMemory
-  in-memory e =
-      (ltb-false MEMORY (m .code .start + 4 * m .code .words) (either-left (ltb MEMORY (m .code .start + 4 * m .code .words)) _ e)
-      , ltb-false MEMORY (m .«data» .start + 4 * m .«data» .words) (either-right (ltb MEMORY (m .code .start + 4 * m .code .words)) _ e))
+  in-memory e = (
+    ltb-false MEMORY (m .code .start + 4 * m .code .words) (either-left (ltb MEMORY (m .code .start + 4 * m .code .words)) _ e),
+    ltb-false MEMORY (m .«data» .start + 4 * m .«data» .words) (either-right (ltb MEMORY (m .code .start + 4 * m .code .words)) _ e),
+  )
 
 -- ---- A region
 
 pub holds-yes : (r : Region) (a : ℕ) → holds r a ≡ true → (r .start ≤ a) × (a < r .start + 4 * r .words)
-holds-yes r a e =
-    (leb-true (r .start) a (both-left (leb (r .start) a) (ltb a (r .start + 4 * r .words)) e)
-    , ltb-true a (r .start + 4 * r .words) (both-right (leb (r .start) a) (ltb a (r .start + 4 * r .words)) e))
+holds-yes r a e = (
+  leb-true (r .start) a (both-left (leb (r .start) a) (ltb a (r .start + 4 * r .words)) e),
+  ltb-true a (r .start + 4 * r .words) (both-right (leb (r .start) a) (ltb a (r .start + 4 * r .words)) e),
+)
 
 pub holds-in : (r : Region) (a : ℕ) → r .start ≤ a → a < r .start + 4 * r .words → holds r a ≡ true
 holds-in r a l h = rw (le-leb (r .start) a l, lt-ltb a (r .start + 4 * r .words) h)
@@ -104,13 +108,15 @@ module _ (m : Machine) where
     where
       has-code : m .code .words ≡ 0 → ⊥
       has-code = right-count m w .0
+
       has-data : m .«data» .words ≡ 0 → ⊥
       has-data = eqb-false (m .«data» .words) 0 (not-true (eqb (m .«data» .words) 0) (both-left (not (eqb (m .«data» .words) 0)) _ e))
+
       by : (t : Bool) → holds (m .«data») (m .code .start) ≡ t → Shared m
       by true h = record { address = m .code .start; in-code = holds-in (m .code) (m .code .start) (omega arith) (let n : m .code .words ≡ 0 → ⊥ = has-code in omega arith); in-data = h }
       by false h =
           record {
             address = m .«data» .start;
             in-code = rw h at (both-right (not (eqb (m .«data» .words) 0)) _ e);
-            in-data = holds-in (m .«data») (m .«data» .start) (omega arith) (let n : m .«data» .words ≡ 0 → ⊥ = has-data in omega arith)
+            in-data = holds-in (m .«data») (m .«data» .start) (omega arith) (let n : m .«data» .words ≡ 0 → ⊥ = has-data in omega arith);
           }

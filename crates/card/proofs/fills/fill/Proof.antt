@@ -1,15 +1,12 @@
-use Prim.Native.Nat.{_+_, _*_, _-_}
-use mathlib.Core.Path.{_≡_, refl, sym, ap, _∙_}
-use native.Mathlib.Omega.{arith}
+use Prim.Native.Nat.{_-_}
 use borrow.Author.Needs.{needs}
 use lib.ListN.{length}
-use Rattle.card.specs.Card.{padded}
+use mathlib.Core.Path.{refl}
+use native.Mathlib.Omega.{arith}
 use Rattle.card.proofs.Tab.{Filling, filling-none, filling-more, filling-all}
 use Rattle.card.proofs.fills.fill.Statement.{statement}
 use Rattle.card.proofs.fills.fill.Tie as tie
-use Rattle.card.proofs.fills.fill.Reads as reads
-use Rattle.card.proofs.fills.fill.Lts as lts
-use Rattle.card.proofs.fills.word_of.Reads as word-of-reads
+use Rattle.card.specs.Card.{padded}
 
 abbrev Inv-loop : tie.InvT-loop
 Inv-loop card from count buffer₀ i₀ buffer i = Filling (padded card from count) buffer₀ buffer i
@@ -17,39 +14,30 @@ Inv-loop card from count buffer₀ i₀ buffer i = Filling (padded card from cou
 abbrev μ-loop : tie.MeasureT-loop
 μ-loop card from count buffer₀ i₀ buffer i = length buffer₀ - i
 
--- src/fills.rt:35:5
 loop-holds : tie.Need-loop-holds Inv-loop μ-loop
 loop-holds c = filling-none _ _
 
--- src/fills.rt:36:21
 word-of-requires : tie.Need-word-of-requires Inv-loop μ-loop
 word-of-requires c κs = search needs
 
--- src/fills.rt:36:9
 mul-buffer : tie.Need-mul-buffer Inv-loop μ-loop
 mul-buffer c = omega arith
 
--- src/fills.rt:36:9
 slice-write-buffer : tie.Need-slice-write-buffer Inv-loop μ-loop
 slice-write-buffer c = omega arith
 
--- src/fills.rt:37:9
 add-i : tie.Need-add-i Inv-loop μ-loop
 add-i c = omega arith
 
--- src/fills.rt:35:5
 loop-less : tie.Need-loop-less Inv-loop μ-loop
 loop-less c = omega arith
 
--- src/fills.rt:35:5
 loop-again : tie.Need-loop-again Inv-loop μ-loop
 loop-again c = filling-more _ _ (c .before .before .loop .inv) (omega arith) (c .word-of .ensures)
 
--- src/fills.rt:30:1
 same-length : tie.Need-same-length Inv-loop μ-loop
 same-length c = c .before .loop .inv .kept
 
--- src/fills.rt:30:1
 returns : tie.Need-returns Inv-loop μ-loop
 returns c = filling-all _ _ (c .before .loop .inv) refl (omega arith)
 

@@ -1,15 +1,12 @@
-use Prim.Native.Nat.{_+_, _*_, _-_}
-use mathlib.Core.Path.{_≡_, refl, sym, ap, _∙_}
-use native.Mathlib.Omega.{arith}
+use Prim.Native.Nat.{_-_}
 use borrow.Author.Needs.{needs}
 use lib.ListN.{length}
-use Rattle.card.specs.Card.{double}
+use mathlib.Core.Path.{refl}
+use native.Mathlib.Omega.{arith}
 use Rattle.card.proofs.Tab.{Filling, filling-none, filling-more, filling-all}
 use Rattle.card.proofs.fills.fill_memory.Statement.{statement}
 use Rattle.card.proofs.fills.fill_memory.Tie as tie
-use Rattle.card.proofs.fills.fill_memory.Reads as reads
-use Rattle.card.proofs.fills.fill_memory.Lts as lts
-use Rattle.card.proofs.fills.double_of.Reads as double-of-reads
+use Rattle.card.specs.Card.{double}
 
 abbrev Inv-loop : tie.InvT-loop
 Inv-loop c d code words memory₀ i₀ memory i = Filling (double c d code words) memory₀ memory i
@@ -17,39 +14,30 @@ Inv-loop c d code words memory₀ i₀ memory i = Filling (double c d code words
 abbrev μ-loop : tie.MeasureT-loop
 μ-loop c d code words memory₀ i₀ memory i = length memory₀ - i
 
--- src/fills.rt:58:5
 loop-holds : tie.Need-loop-holds Inv-loop μ-loop
 loop-holds c = filling-none _ _
 
--- src/fills.rt:59:21
 double-of-requires : tie.Need-double-of-requires Inv-loop μ-loop
 double-of-requires c κs = search needs
 
--- src/fills.rt:59:9
 mul-memory : tie.Need-mul-memory Inv-loop μ-loop
 mul-memory c = omega arith
 
--- src/fills.rt:59:9
 slice-write-memory : tie.Need-slice-write-memory Inv-loop μ-loop
 slice-write-memory c = omega arith
 
--- src/fills.rt:60:9
 add-i : tie.Need-add-i Inv-loop μ-loop
 add-i c = omega arith
 
--- src/fills.rt:58:5
 loop-less : tie.Need-loop-less Inv-loop μ-loop
 loop-less c = omega arith
 
--- src/fills.rt:58:5
 loop-again : tie.Need-loop-again Inv-loop μ-loop
 loop-again c = filling-more _ _ (c .before .before .loop .inv) (omega arith) (c .double-of .ensures)
 
--- src/fills.rt:53:1
 same-length : tie.Need-same-length Inv-loop μ-loop
 same-length c = c .before .loop .inv .kept
 
--- src/fills.rt:53:1
 returns : tie.Need-returns Inv-loop μ-loop
 returns c = filling-all _ _ (c .before .loop .inv) refl (omega arith)
 
