@@ -80,12 +80,10 @@ reservedSet card = not (eqb (getD card 5 0) 0 && eqb (getD card 6 0) 0 && eqb (g
 unfoldable pub wrongSize : ℕ → Machine → Bool
 wrongSize n m = not (eqb n (BODY + 4 * (m .code .words + m .«data» .words)))
 
--- The table: refused exactly when, first that holds; 0 where none does. The three buffers come by their lengths
-unfoldable pub refusal : List ℕ → ℕ → ℕ → ℕ → ℕ
-refusal card code words memory =
-    let m = recordOf card in
-    first
-    ((wrongLength code words memory, 1)
+-- The table, of a card and its record m. The three buffers come by their lengths
+abbrev pub table : List ℕ → Machine → ℕ → ℕ → ℕ → List (Bool × ℕ)
+table card m code words memory =
+    (wrongLength code words memory, 1)
     ∷ (tooShort card, 2)
     ∷ (wrongMark card, 3)
     ∷ (wrongVersion card, 4)
@@ -97,7 +95,11 @@ refusal card code words memory =
     ∷ (overlap m, 10)
     ∷ (notZero m, 11)
     ∷ (overLimit m, 12)
-    ∷ []) 0
+    ∷ []
+
+-- Refused exactly when (first that holds); 0 where none does
+unfoldable pub refusal : List ℕ → ℕ → ℕ → ℕ → ℕ
+refusal card code words memory = first (table card (recordOf card) code words memory) 0
 
 -- ---- What loading leaves
 

@@ -1,11 +1,16 @@
--- What an accepted card has to give for the loader's work: no index lies past an end.
+-- What the loader's functions say to one another.
 use Prim.Native.Nat.{ℕ, _+_, _*_, _≤_}
 use mathlib.Core.Path.{_≡_}
 use mathlib.Core.List.{List}
-use lib.ListN.{length}
+use lib.ListN.{length, drop}
+use Rattle.machine.specs.declared.Machine.{Machine}
 use Rattle.machine.specs.declared.Region.{Region}
-use Rattle.machine.specs.Record.{LONGEST}
-use Rattle.card.specs.Card.{BODY, DOUBLES, recordOf}
+use Rattle.machine.specs.Record.{LONGEST, first}
+use Rattle.card.specs.Card.{BODY, DOUBLES, recordOf, table}
+
+-- The table from test 6 on, the lengths being right
+abbrev pub later : List ℕ → Machine → ℕ
+later card m = first (drop 5 (table card m LONGEST LONGEST DOUBLES)) 0
 
 -- A region's words are all in a buffer
 pub record Held (r : Region) (ws : List ℕ) : Type 0 where

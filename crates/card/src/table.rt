@@ -3,6 +3,7 @@ ghost use mathlib.Core.Path.{_≡_};
 ghost use Prim.Native.Nat.{_≤_};
 ghost use lib.ListN.{length};
 ghost use Rattle.card.specs.Card.{refusal, wrongLength, wrongMark, wrongVersion, reservedSet, wrongSize, BODY};
+ghost use Rattle.card.specs.Work.{later};
 use crate::fields::BODY;
 use crate::fields::VERSION;
 use crate::fields::number16;
@@ -39,7 +40,13 @@ pub fn judge(card: &[u8], code: usize, words: usize, memory: usize) -> u32
     if reserved_set(card) {
         return 5;
     }
-    let machine = record_of(card);
+    judge_record(card, record_of(card))
+}
+
+// The same from test 6 on, of a card and its record.
+fn judge_record(card: &[u8], machine: Machine) -> u32
+    ensures { λ r. ⌜ r ≡ later (now (card .entry)) machine ⌝ }
+{
     if wrong_count(machine) {
         return 6;
     }
