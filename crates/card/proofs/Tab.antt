@@ -5,8 +5,8 @@ use mathlib.Core.Bool.{Bool, true, false}
 use mathlib.Core.List.{List, [], _∷_, _++_, append-assoc}
 use native.Mathlib.Numerals.{add-one}
 use native.Mathlib.Omega.{arith}
-use borrow.Author.Tests.{eqb-true, eqb-false}
-use lib.Dec.{eqb}
+use borrow.Author.Tests.{eqb-true, eqb-false, ltb-true, ltb-false}
+use lib.Dec.{eqb, ltb}
 use lib.ListN.{length, getD, set, drop, length-append, length-set, List·getD-append, List·getD-eq-default, drop-of-length-le}
 use lib.Seq.{getD-at, set-at, drop-cons}
 use Rattle.card.specs.Card.{tab}
@@ -31,6 +31,14 @@ tab-at f (suc n) i l = by (eqb i n) refl (tab-at f n i)
 
 pub tab-past : (f : ℕ → ℕ) (n i : ℕ) → n ≤ i → getD (tab f n) i 0 ≡ 0
 tab-past f n i l = List·getD-eq-default (tab f n) 0 (let k : length (tab f n) ≡ n = tab-length f n in omega arith)
+
+-- Where all of f is below a bound, so is what the list has, and the 0 past its end
+pub tab-below : (f : ℕ → ℕ) (n m : ℕ) → 0 < m → ((i : ℕ) → f i < m) → (i : ℕ) → getD (tab f n) i 0 < m
+tab-below f n m z p i = by (ltb i n) refl
+  where
+    by : (t : Bool) → ltb i n ≡ t → getD (tab f n) i 0 < m
+    by true e = rw (tab-at f n i (ltb-true i n e)) (p i)
+    by false e = rw (tab-past f n i (ltb-false i n e)) z
 
 -- The buffer d₀ with its first i places filled
 pub record Filling (f : ℕ → ℕ) (d₀ d : List ℕ) (i : ℕ) : Type 0 where

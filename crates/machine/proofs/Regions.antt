@@ -1,14 +1,17 @@
 -- What a region holds, and test 10 in the paper's words: some address is in both regions.
-use Prim.Native.Nat.{ℕ, _+_, _*_, _%_, _≤_, _<_}
-use mathlib.Core.Path.{_≡_, refl, sym, _∙_}
+use Prim.Native.Nat.{ℕ, _+_, _-_, _*_, _/_, _%_, _≤_, _<_}
+use mathlib.Core.Path.{_≡_, refl, sym, ap, _∙_}
+use mathlib.Core.List.{List}
 use mathlib.Core.Bool.{Bool, true, false, not, _&&_, _||_}
 use native.Mathlib.Omega.{arith}
 use borrow.Author.Tests.{le-leb, lt-ltb, ne-eqb, leb-true, leb-false, ltb-true, ltb-false, eqb-true, eqb-false, not-true, not-false}
 use lib.Dec.{eqb, leb, ltb}
+use lib.ListN.{getD}
+use Rattle.words.specs.Fields.{pick}
 use Rattle.words.proofs.Signed.{false-true}
 use Rattle.machine.specs.declared.Machine.{Machine}
 use Rattle.machine.specs.declared.Region.{Region}
-use Rattle.machine.specs.Record.{LONGEST, MEMORY, holds, wrongCount, oddStart, pastMemory, overlap}
+use Rattle.machine.specs.Record.{LONGEST, MEMORY, holds, wrongCount, oddStart, pastMemory, overlap, wordAt, image}
 
 -- ---- Tests that are joined
 
@@ -68,6 +71,11 @@ holds-yes r a e = (
 pub holds-in : (r : Region) (a : ℕ) → r .start ≤ a → a < r .start + 4 * r .words → holds r a ≡ true
 holds-in r a l h = rw (le-leb (r .start) a l, lt-ltb a (r .start + 4 * r .words) h)
 
+-- Word i is at s + 4i
+pub word-at : (r : Region) (ws : List ℕ) (i : ℕ) → wordAt r ws (r .start + 4 * i) ≡ getD ws i 0
+unfolding wordAt
+word-at r ws i = ap (λ (n : ℕ). getD ws n 0) (let e : (r .start + 4 * i - r .start) / 4 ≡ i = omega arith in e)
+
 -- ---- Both regions
 
 -- Some address is in both
@@ -120,3 +128,32 @@ module _ (m : Machine) where
             in-code = rw h at (both-right (not (eqb (m .«data» .words) 0)) _ e);
             in-data = holds-in (m .«data») (m .«data» .start) (omega arith) (let n : m .«data» .words ≡ 0 → ⊥ = has-data in omega arith);
           }
+
+-- ---- The image of both
+
+module _ (c d : Region) (code ws : List ℕ) (a : ℕ) where
+  pub image-code : holds c a ≡ true → image c d code ws a ≡ wordAt c code a
+  unfolding image
+  image-code h = rw h
+
+  pub image-data : Disjoint c d → holds d a ≡ true → image c d code ws a ≡ wordAt d ws a
+  unfolding image
+  image-data n h = by (holds c a) refl
+    where
+      by : (t : Bool) → holds c a ≡ t → pick t (wordAt c code a) (pick (holds d a) (wordAt d ws a) 0) ≡ wordAt d ws a
+      by true k = absurd (n a k h)
+      by false k = rw h
+
+  pub image-else : holds c a ≡ false → holds d a ≡ false → image c d code ws a ≡ 0
+  unfolding image
+  image-else h k = rw (h, k)
+
+  -- Where all words are below a bound, so are those of the image
+  pub image-below : (n : ℕ) → 0 < n → ((i : ℕ) → getD code i 0 < n) → ((i : ℕ) → getD ws i 0 < n) → image c d code ws a < n
+  unfolding image wordAt
+  image-below n z p q = by (holds c a) (holds d a)
+    where
+      by : (t u : Bool) → pick t (getD code ((a - c .start) / 4) 0) (pick u (getD ws ((a - d .start) / 4) 0) 0) < n
+      by true u = p ((a - c .start) / 4)
+      by false true = q ((a - d .start) / 4)
+      by false false = z
