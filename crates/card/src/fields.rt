@@ -1,6 +1,6 @@
 // The fields of a card.
 ghost use mathlib.Core.Path.{_≡_};
-ghost use Prim.Native.Nat.{_+_, _<_, _≤_};
+ghost use Prim.Native.Nat.{_+_, _^_, _<_, _≤_};
 ghost use lib.ListN.{length};
 ghost use Rattle.card.specs.Card.{number16, number32, numbers, recordOf, BODY};
 use machine::Machine;
@@ -35,9 +35,11 @@ fn wide(byte: u8) -> u32
 // The number of 16 bits at an offset.
 pub fn number16(card: &[u8], at: usize) -> u32
     requires { ⌜ at + 2 ≤ length (now card) ⌝ }
-    ensures { λ r. ⌜ r ≡ number16 (now (card .entry)) at ⌝ }
+    ensures { λ r. ⌜ (r ≡ number16 (now (card .entry)) at) × (r < 2 ^ 16) ⌝ }
 {
-    wide(card[at]) + 256 * wide(card[at + 1])
+    let low = wide(card[at]);
+    let high = wide(card[at + 1]);
+    low + 256 * high
 }
 
 // The number of 32 bits at an offset.
@@ -45,10 +47,9 @@ pub fn number32(card: &[u8], at: usize) -> u32
     requires { ⌜ at + 4 ≤ length (now card) ⌝ }
     ensures { λ r. ⌜ r ≡ number32 (now (card .entry)) at ⌝ }
 {
-    wide(card[at])
-        + 256 * wide(card[at + 1])
-        + 65536 * wide(card[at + 2])
-        + 16777216 * wide(card[at + 3])
+    let low = number16(card, at);
+    let high = number16(card, at + 2);
+    low + 65536 * high
 }
 
 // The 32 registers from an offset on.

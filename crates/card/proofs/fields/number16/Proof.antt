@@ -16,4 +16,4 @@ number16-spec =
     (λ c κs. search needs)
     (λ c. search needs)
     (λ c. search needs)
-    (λ c. omega arith))
+    (λ c. (omega arith, omega arith)))
