@@ -3,3 +3,4 @@ pub mod Special
 pub mod Holding
 pub mod Quiet
 pub mod Hand
+pub mod Regions

@@ -1,0 +1,5 @@
+pub mod Tab
+pub mod Accepted
+pub mod Loading
+pub mod Memory
+pub mod Results
