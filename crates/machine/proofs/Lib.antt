@@ -4,3 +4,5 @@ pub mod Holding
 pub mod Quiet
 pub mod Hand
 pub mod Regions
+pub mod Acts
+pub mod Bounds

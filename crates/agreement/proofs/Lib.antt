@@ -1,0 +1,5 @@
+pub mod Relation
+pub mod Plain
+pub mod Step
+pub mod Simulation
+pub mod Theorem

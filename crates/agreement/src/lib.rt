@@ -1,0 +1,1 @@
+// The drawing stands for the ship.
