@@ -1,0 +1,33 @@
+use borrow.Author.Needs.{needs}
+use Rattle.vamp.proofs.lanes.extended.Statement.{statement}
+use Rattle.vamp.proofs.lanes.extended.Tie as tie
+use Rattle.vamp.proofs.lanes.extended.Reads as reads
+use Rattle.vamp.proofs.lanes.extended.Lts as lts
+
+-- src/lanes.rt:34:41
+mul-result : tie.Need-mul-result
+mul-result c = ?
+
+-- src/lanes.rt:34:41
+sub-result : tie.Need-sub-result
+sub-result c = ?
+
+-- src/lanes.rt:34:41
+sub-result-2 : tie.Need-sub-result-2
+sub-result-2 c = ?
+
+-- src/lanes.rt:34:27
+sub-result-3 : tie.Need-sub-result-3
+sub-result-3 c = search needs
+
+-- src/lanes.rt:33:1
+returns : tie.Need-returns
+returns c = search needs
+
+-- src/lanes.rt:33:1
+returns-2 : tie.Need-returns-2
+returns-2 c = search needs
+
+pub extended-spec : {M : Type 1} → statement M
+extended-spec =
+    tie.close (tie.spec mul-result sub-result sub-result-2 sub-result-3 returns returns-2)

@@ -1,0 +1,164 @@
+// The VAMP machine: double-word memory, the events of a step in their order, the step and sequences of steps. What an
+// instruction does is taken from `machine`.
+ghost use mathlib.Core.Path.{_≡_};
+ghost use Rattle.vamp.specs.Steps.{answered, stepping, running};
+
+mod course;
+mod events;
+mod lanes;
+
+use machine::Machine;
+use machine::refusals::not_zero;
+
+// What a call answers.
+pub enum Answer {
+    // 0: stepped, with the cause word.
+    Stepped(u32),
+    // 31: interrupt, with the cause word. Nothing is changed.
+    Interrupt(u32),
+    // 32: past modelled memory. Nothing is changed.
+    PastMemory,
+    // 33: MODE would not be 0. Nothing is changed.
+    Mode,
+    // 1: refused, the memory has not 2,048 double words.
+    WrongLength,
+    // 11: refused, R0, an unused special register or MODE is not 0.
+    NotZero,
+}
+
+impl Answer {
+    // The bits of the cause word: an illegal word, a misaligned fetch or access, a trap, an overflow.
+    pub const ILLEGAL: u32 = 2;
+
+    pub const MISALIGNED: u32 = 4;
+
+    pub const TRAP: u32 = 32;
+
+    pub const OVERFLOW: u32 = 64;
+
+    // The document's number of an answer.
+    pub fn number(self) -> u32
+        ensures { λ r. ⌜ r ≡ answered self .0 ⌝ }
+    {
+        match self {
+            Answer::Stepped(_) => 0,
+            Answer::Interrupt(_) => 31,
+            Answer::PastMemory => 32,
+            Answer::Mode => 33,
+            Answer::WrongLength => 1,
+            Answer::NotZero => 11,
+        }
+    }
+
+    // The cause word of an answer.
+    pub fn cause(self) -> u32
+        ensures { λ r. ⌜ r ≡ answered self .1 ⌝ }
+    {
+        match self {
+            Answer::Stepped(cause) => cause,
+            Answer::Interrupt(cause) => cause,
+            Answer::PastMemory => 0,
+            Answer::Mode => 0,
+            Answer::WrongLength => 0,
+            Answer::NotZero => 0,
+        }
+    }
+}
+
+// What one step answers, and the machine after it.
+pub struct Stepped {
+    pub answer: Answer,
+    pub machine: Machine,
+}
+
+// What a sequence of steps answers: the steps taken, the answer of the last step, how many of the steps taken reported a
+// cause, and the machine after them.
+pub struct Ran {
+    pub steps: u32,
+    pub answer: Answer,
+    pub masked: u32,
+    pub machine: Machine,
+}
+
+// The double words of VAMP memory.
+pub const DOUBLE_WORDS: usize = 2048;
+
+// One step.
+pub fn step(machine: Machine, memory: &mut [u64]) -> Stepped
+    ensures { λ r. ⌜ (answered (r .answer), r .machine, now (memory .exit)) ≡ stepping machine (now (memory .entry)) ⌝ }
+{
+    if memory.len() != DOUBLE_WORDS {
+        return Stepped {
+            answer: Answer::WrongLength,
+            machine,
+        };
+    }
+    if not_zero(machine) {
+        return Stepped {
+            answer: Answer::NotZero,
+            machine,
+        };
+    }
+    let code = machine.code;
+    let words = machine.data;
+    let mut gpr = machine.gpr;
+    let mut spr = machine.spr;
+    let course = course::go(machine.dpc, machine.pc, &mut gpr, &mut spr, memory, 1);
+    let answer = course.answer;
+    let after = Machine {
+        code,
+        data: words,
+        limit: machine.limit,
+        dpc: course.dpc,
+        pc: course.pc,
+        gpr,
+        spr,
+    };
+    Stepped {
+        answer,
+        machine: after,
+    }
+}
+
+// Up to `steps` steps, that stop before the first one whose answer is not 0.
+pub fn run(machine: Machine, memory: &mut [u64], steps: u32) -> Ran
+    ensures { λ r. ⌜ (r .steps, answered (r .answer), r .masked, r .machine, now (memory .exit)) ≡ running machine (now (memory .entry)) steps ⌝ }
+{
+    if memory.len() != DOUBLE_WORDS {
+        return Ran {
+            steps: 0,
+            answer: Answer::WrongLength,
+            masked: 0,
+            machine,
+        };
+    }
+    if not_zero(machine) {
+        return Ran {
+            steps: 0,
+            answer: Answer::NotZero,
+            masked: 0,
+            machine,
+        };
+    }
+    let code = machine.code;
+    let words = machine.data;
+    let mut gpr = machine.gpr;
+    let mut spr = machine.spr;
+    let course = course::go(machine.dpc, machine.pc, &mut gpr, &mut spr, memory, steps);
+    let answer = course.answer;
+    let after = Machine {
+        code,
+        data: words,
+        limit: machine.limit,
+        dpc: course.dpc,
+        pc: course.pc,
+        gpr,
+        spr,
+    };
+    Ran {
+        steps: course.taken,
+        answer,
+        masked: course.masked,
+        machine: after,
+    }
+}
