@@ -1,1 +1,3 @@
 pub mod Memory
+mod Shifts
+mod Tests

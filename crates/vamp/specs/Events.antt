@@ -101,8 +101,8 @@ overflowed does.Return = false
 overflowed does.Nothing = false
 
 -- SR bit 6 is 0
-unfoldable pub masked : List ℕ → Bool
-masked p = eqb (register p SR / 2 ^ 6 % 2) 0
+unfoldable pub overflowMasked : List ℕ → Bool
+overflowMasked p = eqb (register p SR / 2 ^ 6 % 2) 0
 
 -- movi2s to MODE of a value other than 0
 unfoldable pub modeSet : Effect → Bool
@@ -121,34 +121,35 @@ modeSet does.Nothing = false
 abbrev pub fetched : List ℕ → State → ℕ
 fetched mem s = at 32 mem (s .dpc)
 
--- Events 4 to 8 are questions about the effect of the word and the special registers p. A masked overflow is a step that reports its cause
+-- The tests with their answers, in the document's order. Events 4 to 8 are questions about the effect e of the word, with the special registers p
 abbrev pub effectEvents : Effect → List ℕ → List (Bool × (ℕ × ℕ))
 effectEvents e p =
-    -- 4. Load or store with ea not a multiple of its size
+    -- 4. Load or store with ea not a multiple of its size: bit 2
     (oddAccess e, interrupt MISALIGNED) ∷
-    -- 5. Load or store past modelled memory
+    -- 5. Load or store past modelled memory: answer 32
     (accessPast e, past) ∷
-    -- 6. trap
+    -- 6. trap: bit 5
     (trapped e, interrupt TRAP) ∷
-    -- 7. Overflow, masked if SR bit 6 is 0
-    (overflowed e && masked p, stepped OVERFLOW) ∷
+    -- 7. Overflow: bit 6. If SR bit 6 is 0 the event is masked: the step is taken and CA is reported
+    (overflowed e && overflowMasked p, stepped OVERFLOW) ∷
     (overflowed e, interrupt OVERFLOW) ∷
-    -- 8. movi2s to MODE of a value other than 0
+    -- 8. movi2s to MODE of a value other than 0: answer 33
     (modeSet e, mode) ∷ []
+
+abbrev pub wordEvents : ℕ → State → List (Bool × (ℕ × ℕ))
+wordEvents w s =
+    -- 3. Illegal word: bit 1
+    (illegal w, interrupt ILLEGAL) ∷
+    effectEvents (act w s .0) (s .spr)
 
 abbrev pub events : List ℕ → State → List (Bool × (ℕ × ℕ))
 events mem s =
-    -- 1. DPC not a multiple of 4: nothing is fetched
+    -- 1. DPC not a multiple of 4: bit 2, nothing is fetched
     (odd 4 (s .dpc), interrupt MISALIGNED) ∷
-    -- 2. Fetch past modelled memory
+    -- 2. Fetch past modelled memory: answer 32
     (beyond (s .dpc), past) ∷
-    -- 3. Illegal word
-    (illegal (fetched mem s), interrupt ILLEGAL) ∷
-    effectEvents (act (fetched mem s) s .0) (s .spr)
+    wordEvents (fetched mem s) s
 
--- The answer of a step and its cause word: those of the first event, and (0, 0) where there is none
-abbrev pub effectEvent : Effect → List ℕ → ℕ × ℕ
-effectEvent e p = first (effectEvents e p) (stepped 0)
-
-unfoldable pub event : List ℕ → State → ℕ × ℕ
+-- The first event's answer with its cause word; 0 with an empty one where there is no event
+abbrev pub event : List ℕ → State → ℕ × ℕ
 event mem s = first (events mem s) (stepped 0)

@@ -1,17 +1,20 @@
 // A step and a sequence of steps, on the counters and the lent registers and memory.
 ghost use mathlib.Core.Path.{_≡_};
+ghost use Prim.Native.Nat.{_+_, _^_, _<_};
+ghost use lib.ListN.{length};
+ghost use Rattle.machine.specs.Record.{first};
+ghost use Rattle.vamp.specs.Memory.{DOUBLE-WORDS};
+ghost use Rattle.vamp.specs.Events.{wordEvents, stepped};
+ghost use Rattle.vamp.specs.Steps.{answered, taken, vstep, onward, start, reported, parts, course};
 use crate::Answer;
-use crate::events::judged;
-use crate::lanes::at;
-use crate::lanes::found;
-use crate::lanes::keep;
+use crate::effects::touch;
+use crate::lanes::read;
 use machine::Machine;
-use words::Instruction;
 use words::Reading;
 
 // The steps taken, the answer of the last step, how many of the steps taken reported a cause, and the counters.
 pub struct Course {
-    pub taken: u32,
+    pub steps: u32,
     pub answer: Answer,
     pub masked: u32,
     pub dpc: u32,
@@ -25,50 +28,83 @@ struct Moved {
     pc: u32,
 }
 
-// Up to `steps` steps, that stop before the first one whose answer is not 0.
-pub fn go(dpc: u32, pc: u32, gpr: &mut [u32; 32], spr: &mut [u32; 32], memory: &mut [u64], steps: u32) -> Course {
+// Up to `limit` steps, that stop before the first one whose answer is not 0.
+pub fn go(
+    dpc: u32,
+    pc: u32,
+    gpr: &mut [u32; 32],
+    spr: &mut [u32; 32],
+    memory: &mut [u64],
+    limit: u32,
+) -> Course
+    requires { ⌜ length (now memory) ≡ DOUBLE-WORDS ⌝ }
+    ensures { λ r. ⌜ course (r .steps) (answered (r .answer)) (r .masked) (parts (r .dpc) (r .pc) (now (gpr .exit)) (now (spr .exit)) (now (memory .exit))) ≡ onward limit (start (parts dpc pc (now (gpr .entry)) (now (spr .entry)) (now (memory .entry)))) ⌝ }
+{
     let mut at = dpc;
     let mut next = pc;
-    let mut taken: u32 = 0;
-    let mut cause: u32 = 0;
+    let mut steps: u32 = 0;
+    let mut last = Answer::Stepped;
     let mut masked: u32 = 0;
-    while taken < steps {
+    while steps < limit {
         let moved = one(at, next, gpr, spr, memory);
         let answer = moved.answer;
         if answer.number() != 0 {
             return Course {
-                taken,
+                steps,
                 answer,
                 masked,
                 dpc: at,
                 pc: next,
             };
         }
-        cause = answer.cause();
-        masked += reported(cause);
+        last = answer;
+        masked = count(masked, answer);
         at = moved.dpc;
         next = moved.pc;
-        taken += 1;
+        steps += 1;
     }
     Course {
-        taken,
-        answer: Answer::Stepped(cause),
+        steps,
+        answer: last,
         masked,
         dpc: at,
         pc: next,
     }
 }
 
-// 1 for a cause.
-fn reported(cause: u32) -> u32 {
-    if cause == 0 { 0 } else { 1 }
+// One more for an answer that reports a cause.
+fn count(masked: u32, answer: Answer) -> u32
+    requires { ⌜ masked + 1 < 2 ^ 32 ⌝ }
+    ensures { λ r. ⌜ r ≡ masked + reported (answered answer .1) ⌝ }
+{
+    match answer {
+        Answer::Stepped => masked,
+        Answer::Masked => masked + 1,
+        Answer::Misaligned => masked + 1,
+        Answer::Illegal => masked + 1,
+        Answer::Trap => masked + 1,
+        Answer::Overflow => masked + 1,
+        Answer::PastMemory => masked,
+        Answer::Mode => masked,
+        Answer::WrongLength => masked,
+        Answer::NotZero => masked,
+    }
 }
 
-// One step: the events of the fetch, in their order.
-fn one(dpc: u32, pc: u32, gpr: &mut [u32; 32], spr: &mut [u32; 32], memory: &mut [u64]) -> Moved {
+// One step: the events of its fetch, and the word.
+fn one(
+    dpc: u32,
+    pc: u32,
+    gpr: &mut [u32; 32],
+    spr: &mut [u32; 32],
+    memory: &mut [u64],
+) -> Moved
+    requires { ⌜ length (now memory) ≡ DOUBLE-WORDS ⌝ }
+    ensures { λ r. ⌜ (answered (r .answer), parts (r .dpc) (r .pc) (now (gpr .exit)) (now (spr .exit)) (now (memory .exit))) ≡ vstep (parts dpc pc (now (gpr .entry)) (now (spr .entry)) (now (memory .entry))) ⌝ }
+{
     if dpc % 4 != 0 {
         return Moved {
-            answer: Answer::Interrupt(Answer::MISALIGNED),
+            answer: Answer::Misaligned,
             dpc,
             pc,
         };
@@ -80,31 +116,42 @@ fn one(dpc: u32, pc: u32, gpr: &mut [u32; 32], spr: &mut [u32; 32], memory: &mut
             pc,
         };
     }
-    let reading = words::read(at(32, memory, dpc));
+    perform(read(32, memory, dpc), dpc, pc, gpr, spr, memory)
+}
+
+// A fetched word: its events, and what it does.
+fn perform(
+    word: u32,
+    dpc: u32,
+    pc: u32,
+    gpr: &mut [u32; 32],
+    spr: &mut [u32; 32],
+    memory: &mut [u64],
+) -> Moved
+    requires { ⌜ length (now memory) ≡ DOUBLE-WORDS ⌝ }
+    ensures { λ r. ⌜ (answered (r .answer), parts (r .dpc) (r .pc) (now (gpr .exit)) (now (spr .exit)) (now (memory .exit))) ≡ taken (first (wordEvents word (parts dpc pc (now (gpr .entry)) (now (spr .entry)) (now (memory .entry)) .0)) (stepped 0)) word (parts dpc pc (now (gpr .entry)) (now (spr .entry)) (now (memory .entry))) ⌝ }
+{
+    let reading = words::read(word);
     match reading {
-        Reading::Legal(instruction) => perform(instruction, dpc, pc, gpr, spr, memory),
+        Reading::Legal(instruction) => {
+            let act = machine::meaning(instruction, pc, gpr, spr);
+            let effect = act.effect;
+            let touched = touch(effect, spr, memory);
+            let answer = touched.answer;
+            if answer.number() != 0 {
+                return Moved { answer, dpc, pc };
+            }
+            let onward = machine::apply(effect, touched.loaded, pc, gpr, spr);
+            Moved {
+                answer,
+                dpc: onward,
+                pc: act.next,
+            }
+        }
         Reading::Illegal => Moved {
-            answer: Answer::Interrupt(Answer::ILLEGAL),
+            answer: Answer::Illegal,
             dpc,
             pc,
         },
-    }
-}
-
-// The events of the effect, and the effect.
-fn perform(instruction: Instruction, dpc: u32, pc: u32, gpr: &mut [u32; 32], spr: &mut [u32; 32], memory: &mut [u64]) -> Moved {
-    let act = machine::meaning(instruction, pc, gpr, spr);
-    let effect = act.effect;
-    let answer = judged(effect, spr);
-    if answer.number() != 0 {
-        return Moved { answer, dpc, pc };
-    }
-    let loaded = found(effect, memory);
-    keep(effect, memory);
-    let onward = machine::apply(effect, loaded, pc, gpr, spr);
-    Moved {
-        answer,
-        dpc: onward,
-        pc: act.next,
     }
 }

@@ -1,81 +1,77 @@
 // Events 4 to 8 of a step: questions about the effect of its word.
-ghost use mathlib.Core.Path.{_≡_};
+ghost use mathlib.Core.Bool.{not, _&&_};
 ghost use mathlib.Core.List.{_∷_, []};
-ghost use Prim.Native.Nat.{_+_};
-ghost use Rattle.machine.specs.Effects.{SR};
+ghost use mathlib.Core.Path.{_≡_};
+ghost use Prim.Native.Nat.{_<_};
+ghost use lib.Dec.{eqb};
+ghost use Rattle.machine.specs.Effects.{loadSize, storeSize, MODE};
 ghost use Rattle.machine.specs.Record.{first};
-ghost use Rattle.vamp.specs.Events.{effectEvent, odd, beyond, stepped, interrupt, past, MISALIGNED};
-ghost use Rattle.vamp.specs.Steps.{answered};
+ghost use Rattle.vamp.specs.Events.{overflowMasked, stepped, interrupt, mode, OVERFLOW};
+ghost use Rattle.vamp.specs.Steps.{answered, accessEvent};
 use crate::Answer;
-use machine::Effect;
 use machine::Machine;
 use words::LoadKind;
 use words::StoreKind;
 
-// The answer of a step by its effect and the special registers.
-pub fn judged(effect: Effect, spr: &[u32; 32]) -> Answer
-    ensures { λ r. ⌜ answered r ≡ effectEvent effect (now (spr .entry)) ⌝ }
+pub fn load(kind: LoadKind, address: u32) -> Answer
+    ensures { λ r. ⌜ answered r ≡ accessEvent (loadSize kind) address ⌝ }
 {
-    match effect {
-        Effect::Put(_, _) => Answer::Stepped(0),
-        Effect::PutSpecial(number, value) => special(number, value),
-        Effect::Sum(_, _, beyond) => sum(beyond, spr),
-        Effect::Load(kind, _, address) => access(load_size(kind), address),
-        Effect::Store(kind, address, _) => access(store_size(kind), address),
-        Effect::Trap(_) => Answer::Interrupt(Answer::TRAP),
-        Effect::Return => Answer::Stepped(0),
-        Effect::Nothing => Answer::Stepped(0),
+    match kind {
+        LoadKind::Lb => access(1, address),
+        LoadKind::Lh => access(2, address),
+        LoadKind::Lw => access(4, address),
+        LoadKind::Lbu => access(1, address),
+        LoadKind::Lhu => access(2, address),
     }
 }
 
-// An access of a size at an address.
+pub fn store(kind: StoreKind, address: u32) -> Answer
+    ensures { λ r. ⌜ answered r ≡ accessEvent (storeSize kind) address ⌝ }
+{
+    match kind {
+        StoreKind::Sb => access(1, address),
+        StoreKind::Sh => access(2, address),
+        StoreKind::Sw => access(4, address),
+    }
+}
+
+// A load or store of a size at an address.
 fn access(size: u32, address: u32) -> Answer
+    requires { ⌜ 0 < size ⌝ }
+    ensures { λ r. ⌜ answered r ≡ accessEvent size address ⌝ }
 {
     if address % size != 0 {
-        return Answer::Interrupt(Answer::MISALIGNED);
+        return Answer::Misaligned;
     }
     if Machine::MEMORY <= address as u64 {
         return Answer::PastMemory;
     }
-    Answer::Stepped(0)
+    Answer::Stepped
 }
 
-fn load_size(kind: LoadKind) -> u32 {
-    match kind {
-        LoadKind::Lb => 1,
-        LoadKind::Lh => 2,
-        LoadKind::Lw => 4,
-        LoadKind::Lbu => 1,
-        LoadKind::Lhu => 2,
-    }
-}
-
-fn store_size(kind: StoreKind) -> u32 {
-    match kind {
-        StoreKind::Sb => 1,
-        StoreKind::Sh => 2,
-        StoreKind::Sw => 4,
-    }
-}
-
-// A sum that may lie beyond the words.
-fn sum(beyond: bool, spr: &[u32; 32]) -> Answer {
+// A sum or difference that may lie beyond the words.
+pub fn sum(beyond: bool, spr: &[u32; 32]) -> Answer
+    ensures { λ r. ⌜ answered r ≡ first ((beyond && overflowMasked (now (spr .entry)), stepped OVERFLOW) ∷ (beyond, interrupt OVERFLOW) ∷ []) (stepped 0) ⌝ }
+{
     if !beyond {
-        return Answer::Stepped(0);
+        return Answer::Stepped;
     }
     if spr[Machine::SR] / Answer::OVERFLOW % 2 == 0 {
-        return Answer::Stepped(Answer::OVERFLOW);
+        return Answer::Masked;
     }
-    Answer::Interrupt(Answer::OVERFLOW)
+    Answer::Overflow
 }
 
 // A value for a special register.
-fn special(number: u8, value: u32) -> Answer {
-    if number as usize != Machine::MODE {
-        return Answer::Stepped(0);
+pub fn special(number: u8, value: u32) -> Answer
+    ensures { λ r. ⌜ answered r ≡ first ((eqb number MODE && not (eqb value 0), mode) ∷ []) (stepped 0) ⌝ }
+{
+    let at = number as usize;
+    if at != Machine::MODE {
+        return Answer::Stepped;
     }
     if value == 0 {
-        return Answer::Stepped(0);
+        return Answer::Stepped;
     }
     Answer::Mode
 }

@@ -4,30 +4,39 @@ ghost use mathlib.Core.Path.{_≡_};
 ghost use Rattle.vamp.specs.Steps.{answered, stepping, running};
 
 mod course;
+mod effects;
 mod events;
 mod lanes;
 
 use machine::Machine;
 use machine::refusals::not_zero;
 
-// What a call answers.
+// What a call answers: the document's number, and the cause word.
 pub enum Answer {
-    // 0: stepped, with the cause word.
-    Stepped(u32),
-    // 31: interrupt, with the cause word. Nothing is changed.
-    Interrupt(u32),
-    // 32: past modelled memory. Nothing is changed.
+    // 0, stepped, with an empty cause word.
+    Stepped,
+    // 0, stepped, with bit 6: SR bit 6 is 0 and masks the overflow.
+    Masked,
+    // 31, interrupt, with bit 2: a fetch or an access that is not a multiple of its size.
+    Misaligned,
+    // 31, interrupt, with bit 1: an illegal word.
+    Illegal,
+    // 31, interrupt, with bit 5: a trap.
+    Trap,
+    // 31, interrupt, with bit 6: an overflow.
+    Overflow,
+    // 32: a fetch or an access past modelled memory.
     PastMemory,
-    // 33: MODE would not be 0. Nothing is changed.
+    // 33: MODE would not be 0.
     Mode,
-    // 1: refused, the memory has not 2,048 double words.
+    // 1, refused: memory is not 2,048 double words.
     WrongLength,
-    // 11: refused, R0, an unused special register or MODE is not 0.
+    // 11, refused: R0, an unused special register or MODE is not 0.
     NotZero,
 }
 
 impl Answer {
-    // The bits of the cause word: an illegal word, a misaligned fetch or access, a trap, an overflow.
+    // The bits of the cause word.
     pub const ILLEGAL: u32 = 2;
 
     pub const MISALIGNED: u32 = 4;
@@ -36,13 +45,17 @@ impl Answer {
 
     pub const OVERFLOW: u32 = 64;
 
-    // The document's number of an answer.
+    // The document's number.
     pub fn number(self) -> u32
         ensures { λ r. ⌜ r ≡ answered self .0 ⌝ }
     {
         match self {
-            Answer::Stepped(_) => 0,
-            Answer::Interrupt(_) => 31,
+            Answer::Stepped => 0,
+            Answer::Masked => 0,
+            Answer::Misaligned => 31,
+            Answer::Illegal => 31,
+            Answer::Trap => 31,
+            Answer::Overflow => 31,
             Answer::PastMemory => 32,
             Answer::Mode => 33,
             Answer::WrongLength => 1,
@@ -50,13 +63,17 @@ impl Answer {
         }
     }
 
-    // The cause word of an answer.
+    // The cause word.
     pub fn cause(self) -> u32
         ensures { λ r. ⌜ r ≡ answered self .1 ⌝ }
     {
         match self {
-            Answer::Stepped(cause) => cause,
-            Answer::Interrupt(cause) => cause,
+            Answer::Stepped => 0,
+            Answer::Masked => Answer::OVERFLOW,
+            Answer::Misaligned => Answer::MISALIGNED,
+            Answer::Illegal => Answer::ILLEGAL,
+            Answer::Trap => Answer::TRAP,
+            Answer::Overflow => Answer::OVERFLOW,
             Answer::PastMemory => 0,
             Answer::Mode => 0,
             Answer::WrongLength => 0,
@@ -156,7 +173,7 @@ pub fn run(machine: Machine, memory: &mut [u64], steps: u32) -> Ran
         spr,
     };
     Ran {
-        steps: course.taken,
+        steps: course.steps,
         answer,
         masked: course.masked,
         machine: after,

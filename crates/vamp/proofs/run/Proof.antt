@@ -6,27 +6,27 @@ use Rattle.vamp.proofs.run.Lts as lts
 use Rattle.machine.proofs.refusals.not_zero.Reads as not-zero-reads
 use Rattle.vamp.proofs.course.go.Reads as go-reads
 
--- src/lib.rt:128:9
+-- src/lib.rt:145:9
 returns : tie.Need-returns
 returns c = ?
 
--- src/lib.rt:135:8
+-- src/lib.rt:152:8
 not-zero-requires : tie.Need-not-zero-requires
 not-zero-requires c κs = search needs
 
--- src/lib.rt:136:9
+-- src/lib.rt:153:9
 returns-2 : tie.Need-returns-2
 returns-2 c = ?
 
--- src/lib.rt:147:9
+-- src/lib.rt:164:9
 go-requires : tie.Need-go-requires
 go-requires c κs = search needs
 
--- src/lib.rt:124:1
+-- src/lib.rt:141:1
 same-length : tie.Need-same-length
 same-length c = search needs
 
--- src/lib.rt:124:1
+-- src/lib.rt:141:1
 returns-3 : tie.Need-returns-3
 returns-3 c = ?
 

@@ -1,0 +1,29 @@
+-- What the tests of an access say.
+use Prim.Native.Nat.{ℕ, _%_, _≤_, _<_}
+use mathlib.Core.Path.{_≡_, refl, sym, ap, _∙_}
+use mathlib.Core.Bool.{Bool, true, false, not}
+use native.Mathlib.Omega.{arith}
+use borrow.Author.Tests.{eqb-true, not-false, leb-false}
+use lib.Dec.{eqb, leb}
+use Rattle.words.specs.Fields.{pick}
+use Rattle.machine.specs.Record.{MEMORY}
+use Rattle.vamp.specs.Events.{odd, beyond}
+use Rattle.vamp.specs.Steps.{accessEvent}
+
+-- An access that is a multiple of its size
+pub even : (size a : ℕ) → odd size a ≡ false → a % size ≡ 0
+even size a h = eqb-true (a % size) 0 (not-false (eqb (a % size) 0) h)
+
+-- An access with no event
+pub record Inside (size a : ℕ) : Type 0 where
+  pub aligned : odd size a ≡ false
+  pub within : a < MEMORY
+  pub clear : accessEvent size a ≡ (0, 0)
+
+pub inside : (size a : ℕ) → accessEvent size a .0 ≡ 0 → Inside size a
+inside size a h = by (odd size a) refl (beyond a) refl
+  where
+    by : (s : Bool) → odd size a ≡ s → (t : Bool) → beyond a ≡ t → Inside size a
+    by true e t d = absurd (let z : _≡_ {A = ℕ} 31 0 = rw e at h in omega arith)
+    by false e true d = absurd (let z : _≡_ {A = ℕ} 32 0 = rw (e, d) at h in omega arith)
+    by false e false d = record { aligned = e; within = leb-false MEMORY a d; clear = rw (e, d) }

@@ -1,0 +1,19 @@
+use Rattle.vamp.proofs.events.special.Statement.{statement}
+use Rattle.vamp.proofs.events.special.Tie as tie
+use Rattle.vamp.proofs.events.special.Reads as reads
+use Rattle.vamp.proofs.events.special.Lts as lts
+
+-- src/events.rt:71:9
+returns : tie.Need-returns
+returns c = ?
+
+-- src/events.rt:74:9
+returns-2 : tie.Need-returns-2
+returns-2 c = ?
+
+-- src/events.rt:66:1
+returns-3 : tie.Need-returns-3
+returns-3 c = ?
+
+pub special-spec : {M : Type 1} → statement M
+special-spec = tie.close (tie.spec returns returns-2 returns-3)
