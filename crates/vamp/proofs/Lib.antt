@@ -1,3 +1,4 @@
 pub mod Memory
 mod Shifts
 mod Tests
+mod Touches

@@ -3,12 +3,12 @@ use Prim.Native.Nat.{ℕ, _%_, _≤_, _<_}
 use mathlib.Core.Path.{_≡_, refl, sym, ap, _∙_}
 use mathlib.Core.Bool.{Bool, true, false, not}
 use native.Mathlib.Omega.{arith}
-use borrow.Author.Tests.{eqb-true, not-false, leb-false}
+use borrow.Author.Tests.{eq-eqb, ne-eqb, eqb-true, not-false, leb-false}
 use lib.Dec.{eqb, leb}
 use Rattle.words.specs.Fields.{pick}
 use Rattle.machine.specs.Record.{MEMORY}
 use Rattle.vamp.specs.Events.{odd, beyond}
-use Rattle.vamp.specs.Steps.{accessEvent}
+use Rattle.vamp.specs.Steps.{accessEvent, took}
 
 -- An access that is a multiple of its size
 pub even : (size a : ℕ) → odd size a ≡ false → a % size ≡ 0
@@ -21,9 +21,26 @@ pub record Inside (size a : ℕ) : Type 0 where
   pub clear : accessEvent size a ≡ (0, 0)
 
 pub inside : (size a : ℕ) → accessEvent size a .0 ≡ 0 → Inside size a
+unfolding accessEvent
 inside size a h = by (odd size a) refl (beyond a) refl
   where
     by : (s : Bool) → odd size a ≡ s → (t : Bool) → beyond a ≡ t → Inside size a
     by true e t d = absurd (let z : _≡_ {A = ℕ} 31 0 = rw e at h in omega arith)
     by false e true d = absurd (let z : _≡_ {A = ℕ} 32 0 = rw (e, d) at h in omega arith)
     by false e false d = record { aligned = e; within = leb-false MEMORY a d; clear = rw (e, d) }
+
+-- What an answer decides
+module _ {A : Type 0} (n : ℕ) (x y : A) where
+  pub took-yes : n ≡ 0 → took n x y ≡ x
+  took-yes h = rw (took, eq-eqb n 0 h)
+
+  pub took-not : (n ≡ 0 → ⊥) → took n x y ≡ y
+  took-not h = rw (took, ne-eqb n 0 h)
+
+-- The number n that the code reads off its answer b is that of the answer a which b is
+module _ {n : ℕ} {a b : ℕ × ℕ} (number : n ≡ b .0) (same : b ≡ a) where
+  pub went : n ≡ 0 → a .0 ≡ 0
+  went z = ap (λ (p : ℕ × ℕ). p .0) (sym same) ∙ sym number ∙ z
+
+  pub stopped : (n ≡ 0 → ⊥) → a .0 ≡ 0 → ⊥
+  stopped h z = h (number ∙ ap (λ (p : ℕ × ℕ). p .0) same ∙ z)

@@ -49,13 +49,13 @@ carried w x =
     let e = act w (x .0) .0 in
     (moved w (found e (x .1)) (x .0), kept e (x .1))
 
--- x where the answer a is 0, else y
-abbrev pub took : {A : Type 0} → ℕ × ℕ → A → A → A
-took a x y = elim (eqb (a .0) 0) [ true ↦ x | false ↦ y ]
+-- x where the answer n is 0, else y
+abbrev pub took : {A : Type 0} → ℕ → A → A → A
+took n x y = elim (eqb n 0) [ true ↦ x | false ↦ y ]
 
 -- All answers but 0 change nothing
 abbrev pub taken : ℕ × ℕ → ℕ → Vamp → (ℕ × ℕ) × Vamp
-taken a w x = (a, took a (carried w x) x)
+taken a w x = (a, took (a .0) (carried w x) x)
 
 -- A step: its answer with the cause word, and what it leaves
 unfoldable pub vstep : Vamp → (ℕ × ℕ) × Vamp
@@ -107,14 +107,14 @@ abbrev pub course : ℕ → ℕ × ℕ → ℕ → Vamp → Course
 course n a m x = record { steps = n; answer = a; masked = m; left = x }
 
 -- Events 4 and 5 of an access
-abbrev pub accessEvent : ℕ → ℕ → ℕ × ℕ
+unfoldable pub accessEvent : ℕ → ℕ → ℕ × ℕ
 accessEvent size a = first ((odd size a, interrupt MISALIGNED) ∷ (beyond a, past) ∷ []) (stepped 0)
 
 -- The events of an effect, what its load finds, and memory after it
 abbrev pub touched : Effect → List ℕ → List ℕ → (ℕ × ℕ) × ℕ × List ℕ
 touched e p mem =
     let a = first (effectEvents e p) (stepped 0) in
-    (a, took a (found e mem) 0, took a (kept e mem) mem)
+    (a, took (a .0) (found e mem) 0, took (a .0) (kept e mem) mem)
 
 -- ---- What the public calls answer
 

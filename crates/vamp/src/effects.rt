@@ -43,7 +43,7 @@ fn bare(answer: Answer) -> Touched
 // A load: its events, and what it finds.
 fn find(kind: LoadKind, memory: &[u64], address: u32) -> Touched
     requires { ⌜ length (now memory) ≡ DOUBLE-WORDS ⌝ }
-    ensures { λ r. ⌜ (answered (r .answer) ≡ accessEvent (loadSize kind) address) × (r .loaded ≡ took (accessEvent (loadSize kind) address) (loaded kind (now (memory .entry)) address) 0) ⌝ }
+    ensures { λ r. ⌜ (answered (r .answer) ≡ accessEvent (loadSize kind) address) × (r .loaded ≡ took (accessEvent (loadSize kind) address .0) (loaded kind (now (memory .entry)) address) 0) ⌝ }
 {
     let answer = events::load(kind, address);
     if answer.number() != 0 {
@@ -58,7 +58,7 @@ fn find(kind: LoadKind, memory: &[u64], address: u32) -> Touched
 // A store: its events, and what it puts.
 fn keep(kind: StoreKind, memory: &mut [u64], address: u32, value: u32) -> Answer
     requires { ⌜ length (now memory) ≡ DOUBLE-WORDS ⌝ }
-    ensures { λ r. ⌜ (answered r ≡ accessEvent (storeSize kind) address) × (now (memory .exit) ≡ took (accessEvent (storeSize kind) address) (stored kind (now (memory .entry)) address value) (now (memory .entry))) ⌝ }
+    ensures { λ r. ⌜ (answered r ≡ accessEvent (storeSize kind) address) × (now (memory .exit) ≡ took (accessEvent (storeSize kind) address .0) (stored kind (now (memory .entry)) address value) (now (memory .entry))) ⌝ }
 {
     let answer = events::store(kind, address);
     if answer.number() != 0 {

@@ -1,3 +1,5 @@
+use mathlib.Core.Path.{sym, _∙_}
+use Rattle.vamp.proofs.Tests.{went, stopped, inside, took-yes, took-not}
 use borrow.Author.Needs.{needs}
 use Rattle.vamp.proofs.effects.find.Statement.{statement}
 use Rattle.vamp.proofs.effects.find.Tie as tie
@@ -22,15 +24,15 @@ bare-requires c κs = search needs
 
 -- src/effects.rt:50:9
 returns : tie.Need-returns
-returns c = ?
+returns c = (simp (c .bare .ensures .0, c .before .before .before .load .ensures), c .bare .ensures .1 ∙ sym (took-not _ _ _ (stopped (c .before .before .number .ensures) (c .before .before .before .load .ensures) (c .before .if1 .taken))))
 
 -- src/effects.rt:54:17
 load-requires-2 : tie.Need-load-requires-2
-load-requires-2 c κs = ?
+load-requires-2 c κs = let i = inside _ _ (went (c .before .number .ensures) (c .before .before .load .ensures) (c .if1 .left)) in search needs
 
 -- src/effects.rt:44:1
 returns-2 : tie.Need-returns-2
-returns-2 c = ?
+returns-2 c = let i = inside _ _ (went (c .before .before .number .ensures) (c .before .before .before .load .ensures) (c .before .if1 .left)) in (sym (i .clear), c .load2 .ensures ∙ sym (took-yes _ _ _ (went (c .before .before .number .ensures) (c .before .before .before .load .ensures) (c .before .if1 .left))))
 
 pub find-spec : {M : Type 1} → statement M
 find-spec =

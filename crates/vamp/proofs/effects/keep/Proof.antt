@@ -1,3 +1,5 @@
+use mathlib.Core.Path.{sym, _∙_}
+use Rattle.vamp.proofs.Tests.{went, stopped, inside, took-yes, took-not}
 use borrow.Author.Needs.{needs}
 use Rattle.vamp.proofs.effects.keep.Statement.{statement}
 use Rattle.vamp.proofs.effects.keep.Tie as tie
@@ -17,11 +19,11 @@ number-requires c κs = search needs
 
 -- src/effects.rt:65:9
 returns : tie.Need-returns
-returns c = ?
+returns c = (c .before .before .store .ensures, sym (took-not _ _ _ (stopped (c .before .number .ensures) (c .before .before .store .ensures) (c .if1 .taken))))
 
 -- src/effects.rt:67:5
 store-requires-2 : tie.Need-store-requires-2
-store-requires-2 c κs = ?
+store-requires-2 c κs = let i = inside _ _ (went (c .before .before .number .ensures) (c .before .before .before .store .ensures) (c .before .if1 .left)) in search needs
 
 -- src/effects.rt:59:1
 same-length : tie.Need-same-length
@@ -29,7 +31,7 @@ same-length c = search needs
 
 -- src/effects.rt:59:1
 returns-2 : tie.Need-returns-2
-returns-2 c = ?
+returns-2 c = let i = inside _ _ (went (c .before .before .before .before .before .number .ensures) (c .before .before .before .before .before .before .store .ensures) (c .before .before .before .before .if1 .left)) in (sym (i .clear), c .before .before .store2 .ensures ∙ sym (took-yes _ _ _ (went (c .before .before .before .before .before .number .ensures) (c .before .before .before .before .before .before .store .ensures) (c .before .before .before .before .if1 .left))))
 
 pub keep-spec : {M : Type 1} → statement M
 keep-spec =

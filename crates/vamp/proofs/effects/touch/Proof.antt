@@ -1,3 +1,4 @@
+use Rattle.vamp.proofs.Touches.{touched-put, touched-special, touched-sum, touched-load, touched-store, touched-trap, touched-return, touched-nothing}
 use borrow.Author.Needs.{needs}
 use Rattle.vamp.proofs.effects.touch.Statement.{statement}
 use Rattle.vamp.proofs.effects.touch.Tie as tie
@@ -87,15 +88,15 @@ bare-requires-7 c κs = search needs
 
 -- src/effects.rt:21:1
 returns : tie.Need-returns
-returns c = ?
+returns c = simp (c .before .enum-told .given .1, touched-put, c .bare .ensures .0, c .bare .ensures .1)
 
 -- src/effects.rt:21:1
 returns-2 : tie.Need-returns-2
-returns-2 c = ?
+returns-2 c = simp (c .before .before .before .effect .given .1, touched-special, c .bare2 .ensures .0, c .bare2 .ensures .1, c .before .special .ensures)
 
 -- src/effects.rt:21:1
 returns-3 : tie.Need-returns-3
-returns-3 c = ?
+returns-3 c = simp (c .before .before .before .effect2 .given .1, touched-sum, c .bare3 .ensures .0, c .bare3 .ensures .1, c .before .sum .ensures)
 
 -- src/effects.rt:21:1
 same-length : tie.Need-same-length
@@ -103,7 +104,7 @@ same-length c = search needs
 
 -- src/effects.rt:21:1
 returns-4 : tie.Need-returns-4
-returns-4 c = ?
+returns-4 c = simp (c .before .before .before .effect3 .given .1, touched-load, c .find .ensures .0, c .find .ensures .1)
 
 -- src/effects.rt:21:1
 same-length-2 : tie.Need-same-length-2
@@ -111,19 +112,19 @@ same-length-2 c = search needs
 
 -- src/effects.rt:21:1
 returns-5 : tie.Need-returns-5
-returns-5 c = ?
+returns-5 c = simp (c .before .before .before .before .before .before .effect4 .given .1, touched-store, c .bare4 .ensures .0, c .bare4 .ensures .1, c .before .before .before .keep .ensures .0, c .before .before .before .keep .ensures .1)
 
 -- src/effects.rt:21:1
 returns-6 : tie.Need-returns-6
-returns-6 c = ?
+returns-6 c = simp (c .before .enum-told2 .given .1, touched-trap, c .bare5 .ensures .0, c .bare5 .ensures .1)
 
 -- src/effects.rt:21:1
 returns-7 : tie.Need-returns-7
-returns-7 c = ?
+returns-7 c = simp (c .before .enum-told3 .given .1, touched-return, c .bare6 .ensures .0, c .bare6 .ensures .1)
 
 -- src/effects.rt:21:1
 returns-8 : tie.Need-returns-8
-returns-8 c = ?
+returns-8 c = simp (c .before .enum-told4 .given .1, touched-nothing, c .bare7 .ensures .0, c .bare7 .ensures .1)
 
 pub touch-spec : {M : Type 1} → statement M
 touch-spec =

@@ -47,23 +47,23 @@ access-requires-5 c κs = search needs
 
 -- src/events.rt:16:1
 returns : tie.Need-returns
-returns c = ?
+returns c = simp (c .before .enum-told .given .1, c .access .ensures)
 
 -- src/events.rt:16:1
 returns-2 : tie.Need-returns-2
-returns-2 c = ?
+returns-2 c = simp (c .before .enum-told2 .given .1, c .access2 .ensures)
 
 -- src/events.rt:16:1
 returns-3 : tie.Need-returns-3
-returns-3 c = ?
+returns-3 c = simp (c .before .enum-told3 .given .1, c .access3 .ensures)
 
 -- src/events.rt:16:1
 returns-4 : tie.Need-returns-4
-returns-4 c = ?
+returns-4 c = simp (c .before .enum-told4 .given .1, c .access4 .ensures)
 
 -- src/events.rt:16:1
 returns-5 : tie.Need-returns-5
-returns-5 c = ?
+returns-5 c = simp (c .before .enum-told5 .given .1, c .access5 .ensures)
 
 pub load-spec : {M : Type 1} → statement M
 load-spec =

@@ -31,15 +31,15 @@ access-requires-3 c κs = search needs
 
 -- src/events.rt:28:1
 returns : tie.Need-returns
-returns c = ?
+returns c = simp (c .before .enum-told .given .1, c .access .ensures)
 
 -- src/events.rt:28:1
 returns-2 : tie.Need-returns-2
-returns-2 c = ?
+returns-2 c = simp (c .before .enum-told2 .given .1, c .access2 .ensures)
 
 -- src/events.rt:28:1
 returns-3 : tie.Need-returns-3
-returns-3 c = ?
+returns-3 c = simp (c .before .enum-told3 .given .1, c .access3 .ensures)
 
 pub store-spec : {M : Type 1} → statement M
 store-spec =
