@@ -1,4 +1,5 @@
 pub mod Memory
+mod Performs
 mod Shifts
 mod Tests
 mod Touches

@@ -150,6 +150,12 @@ events mem s =
     (beyond (s .dpc), past) ∷
     wordEvents (fetched mem s) s
 
--- The first event's answer with its cause word; 0 with an empty one where there is no event
-abbrev pub event : List ℕ → State → ℕ × ℕ
+-- The answer with its cause word: that of the first event; 0 and an empty one where there is none
+unfoldable pub effectEvent : Effect → List ℕ → ℕ × ℕ
+effectEvent e p = first (effectEvents e p) (stepped 0)
+
+unfoldable pub wordEvent : ℕ → State → ℕ × ℕ
+wordEvent w s = first (wordEvents w s) (stepped 0)
+
+unfoldable pub event : List ℕ → State → ℕ × ℕ
 event mem s = first (events mem s) (stepped 0)

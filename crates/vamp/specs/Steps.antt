@@ -11,7 +11,7 @@ use Rattle.machine.specs.declared.Effect.the-variants as does
 use Rattle.machine.specs.Effects.{State, act, moved}
 use Rattle.machine.specs.Record.{first, notZero, stateOf, withState}
 use Rattle.vamp.specs.Memory.{DOUBLE-WORDS, loaded, stored}
-use Rattle.vamp.specs.Events.{odd, beyond, fetched, event, effectEvents, stepped, interrupt, past, mode, ILLEGAL, MISALIGNED, TRAP, OVERFLOW}
+use Rattle.vamp.specs.Events.{odd, beyond, fetched, event, effectEvent, stepped, interrupt, past, mode, ILLEGAL, MISALIGNED, TRAP, OVERFLOW}
 use Rattle.vamp.specs.declared.Answer.{Answer}
 use Rattle.vamp.specs.declared.Answer.the-variants as says
 
@@ -113,7 +113,7 @@ accessEvent size a = first ((odd size a, interrupt MISALIGNED) ∷ (beyond a, pa
 -- The events of an effect, what its load finds, and memory after it
 abbrev pub touched : Effect → List ℕ → List ℕ → (ℕ × ℕ) × ℕ × List ℕ
 touched e p mem =
-    let a = first (effectEvents e p) (stepped 0) in
+    let a = effectEvent e p in
     (a, took (a .0) (found e mem) 0, took (a .0) (kept e mem) mem)
 
 -- ---- What the public calls answer

@@ -2,9 +2,8 @@
 ghost use mathlib.Core.Path.{_≡_};
 ghost use Prim.Native.Nat.{_+_, _^_, _<_};
 ghost use lib.ListN.{length};
-ghost use Rattle.machine.specs.Record.{first};
 ghost use Rattle.vamp.specs.Memory.{DOUBLE-WORDS};
-ghost use Rattle.vamp.specs.Events.{wordEvents, stepped};
+ghost use Rattle.vamp.specs.Events.{wordEvent};
 ghost use Rattle.vamp.specs.Steps.{answered, taken, vstep, onward, start, reported, parts, course};
 use crate::Answer;
 use crate::effects::touch;
@@ -129,7 +128,7 @@ fn perform(
     memory: &mut [u64],
 ) -> Moved
     requires { ⌜ length (now memory) ≡ DOUBLE-WORDS ⌝ }
-    ensures { λ r. ⌜ (answered (r .answer), parts (r .dpc) (r .pc) (now (gpr .exit)) (now (spr .exit)) (now (memory .exit))) ≡ taken (first (wordEvents word (parts dpc pc (now (gpr .entry)) (now (spr .entry)) (now (memory .entry)) .0)) (stepped 0)) word (parts dpc pc (now (gpr .entry)) (now (spr .entry)) (now (memory .entry))) ⌝ }
+    ensures { λ r. ⌜ (answered (r .answer), parts (r .dpc) (r .pc) (now (gpr .exit)) (now (spr .exit)) (now (memory .exit))) ≡ taken (wordEvent word (parts dpc pc (now (gpr .entry)) (now (spr .entry)) (now (memory .entry)) .0)) word (parts dpc pc (now (gpr .entry)) (now (spr .entry)) (now (memory .entry))) ⌝ }
 {
     let reading = words::read(word);
     match reading {

@@ -1,3 +1,6 @@
+use Rattle.vamp.proofs.Performs.{performs, performs-stop, performs-illegal}
+use Rattle.words.specs.Words.{readingAnswer}
+use mathlib.Core.Path.{sym, ap, _∙_}
 use borrow.Author.Needs.{needs}
 use Rattle.vamp.proofs.course.perform.Statement.{statement}
 use Rattle.vamp.proofs.course.perform.Tie as tie
@@ -35,7 +38,7 @@ same-length c = search needs
 
 -- src/course.rt:142:17
 returns : tie.Need-returns
-returns c = ?
+returns c = performs-stop _ _ _ _ _ _ _ (sym (c .before .before .before .before .before .before .before .before .before .before .before .before .before .read .ensures) ∙ ap readingAnswer (c .before .before .before .before .before .before .before .before .before .before .before .reading .given .1)) _ _ (c .before .before .before .before .before .before .before .meaning .ensures) _ _ _ (c .before .before .before .before .touch .ensures) (λ z. c .if1 .taken (c .before .number .ensures ∙ z))
 
 -- src/course.rt:144:17
 apply-requires : tie.Need-apply-requires
@@ -51,11 +54,11 @@ same-length-2 c = search needs
 
 -- src/course.rt:123:1
 returns-2 : tie.Need-returns-2
-returns-2 c = ?
+returns-2 c = performs _ _ _ _ _ _ _ (sym (c .before .before .before .before .before .before .before .before .before .before .before .before .before .before .before .before .read .ensures) ∙ ap readingAnswer (c .before .before .before .before .before .before .before .before .before .before .before .before .before .before .reading .given .1)) _ _ (c .before .before .before .before .before .before .before .before .before .before .meaning .ensures) _ _ _ (c .before .before .before .before .before .before .before .touch .ensures) (sym (c .before .before .before .before .number .ensures) ∙ c .before .before .before .if1 .left) _ _ _ (c .apply .ensures)
 
 -- src/course.rt:123:1
 returns-3 : tie.Need-returns-3
-returns-3 c = ?
+returns-3 c = performs-illegal _ _ _ _ _ _ (sym (c .before .before .read .ensures) ∙ ap readingAnswer (c .enum-told .given .1))
 
 pub perform-spec : {M : Type 1} → statement M
 perform-spec =
