@@ -1,4 +1,5 @@
 pub mod Memory
+pub mod Onward
 mod Performs
 mod Shifts
 mod Tests

@@ -1,16 +1,19 @@
 -- A step by what its parts give: the reading of the word, its meaning, what the effect asks of memory, and the registers after it.
-use Prim.Native.Nat.{ℕ}
+use Prim.Native.Nat.{ℕ, _%_, _≤_, _<_}
 use mathlib.Core.Path.{_≡_, refl, sym, ap, ap₂, _∙_}
+use mathlib.Core.Bool.{Bool, not}
 use mathlib.Core.List.{List}
 use mathlib.Core.Option.{Option, none, some}
+use borrow.Author.Tests.{eq-eqb, ne-eqb, le-leb, lt-leb}
 use lib.Dec.{eqb}
 use Rattle.words.specs.Fields.{pick}
 use Rattle.words.specs.Words.{reading}
 use Rattle.words.specs.declared.Instruction.{Instruction}
 use Rattle.machine.specs.declared.Effect.{Effect}
 use Rattle.machine.specs.Effects.{State, act, meaning, applied, moved}
-use Rattle.vamp.specs.Events.{illegal, effectEvent, wordEvent, interrupt, ILLEGAL}
-use Rattle.vamp.specs.Steps.{Vamp, found, kept, took, taken, carried, touched, parts}
+use Rattle.machine.specs.Record.{MEMORY}
+use Rattle.vamp.specs.Events.{illegal, fetched, effectEvent, wordEvent, event, interrupt, past, ILLEGAL, MISALIGNED}
+use Rattle.vamp.specs.Steps.{Vamp, found, kept, took, taken, carried, vstep, touched, parts}
 use Rattle.vamp.proofs.Tests.{took-yes, took-not}
 
 module _ (w dpc pc : ℕ) (g p mem : List ℕ) where
@@ -60,3 +63,20 @@ module _ (w dpc pc : ℕ) (g p mem : List ℕ) where
         ap (λ (y : Vamp). (b, y))
         (ap₂ (after-is (e, n)) (applies ∙ ap (λ (v : ℕ). applied e v pc g p) finds) keeps ∙ sym carried-is ∙ sym (took-yes (b .0) (carried w x) x h))
         ∙ ap (λ (a : ℕ × ℕ). taken a w x) (sym word-is)
+
+-- A step by the events of its fetch
+module _ (x : Vamp) where
+  pub fetches-odd : (x .0 .dpc % 4 ≡ 0 → ⊥) → (interrupt MISALIGNED, x) ≡ vstep x
+  unfolding vstep event
+  fetches-odd h = rw (vstep, event, ne-eqb (x .0 .dpc % 4) 0 h)
+
+  pub fetches-past : x .0 .dpc % 4 ≡ 0 → MEMORY ≤ x .0 .dpc → (past, x) ≡ vstep x
+  unfolding vstep event
+  fetches-past h l = rw (vstep, event, eq-eqb (x .0 .dpc % 4) 0 h, le-leb MEMORY (x .0 .dpc) l)
+
+  pub fetches : x .0 .dpc % 4 ≡ 0 → x .0 .dpc < MEMORY → (w : ℕ) → w ≡ fetched (x .1) (x .0) → (r : (ℕ × ℕ) × Vamp) → r ≡ taken (wordEvent w (x .0)) w x → r ≡ vstep x
+  unfolding vstep event wordEvent
+  fetches h l w e r t =
+      t ∙ ap (λ (v : ℕ). taken (wordEvent v (x .0)) v x) e
+      ∙ sym (ap₂ (λ (o p : Bool). taken (pick (not o) (interrupt MISALIGNED) (pick p past (wordEvent (fetched (x .1) (x .0)) (x .0)))) (fetched (x .1) (x .0)) x)
+      (eq-eqb (x .0 .dpc % 4) 0 h) (lt-leb MEMORY (x .0 .dpc) l))

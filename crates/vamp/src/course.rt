@@ -52,8 +52,8 @@ pub fn go(
                 steps,
                 answer,
                 masked,
-                dpc: at,
-                pc: next,
+                dpc: moved.dpc,
+                pc: moved.pc,
             };
         }
         last = answer;

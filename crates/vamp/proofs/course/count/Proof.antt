@@ -1,3 +1,4 @@
+use native.Mathlib.Omega.{arith}
 use borrow.Author.Needs.{needs}
 use Rattle.vamp.proofs.course.count.Statement.{statement}
 use Rattle.vamp.proofs.course.count.Tie as tie
@@ -66,43 +67,43 @@ enum-told-10 c = search needs
 
 -- src/course.rt:76:1
 returns : tie.Need-returns
-returns c = ?
+returns c = simp (c .enum-told .given .1) (omega arith)
 
 -- src/course.rt:76:1
 returns-2 : tie.Need-returns-2
-returns-2 c = ?
+returns-2 c = simp (c .enum-told2 .given .1) (omega arith)
 
 -- src/course.rt:76:1
 returns-3 : tie.Need-returns-3
-returns-3 c = ?
+returns-3 c = simp (c .enum-told3 .given .1) (omega arith)
 
 -- src/course.rt:76:1
 returns-4 : tie.Need-returns-4
-returns-4 c = ?
+returns-4 c = simp (c .enum-told4 .given .1) (omega arith)
 
 -- src/course.rt:76:1
 returns-5 : tie.Need-returns-5
-returns-5 c = ?
+returns-5 c = simp (c .enum-told5 .given .1) (omega arith)
 
 -- src/course.rt:76:1
 returns-6 : tie.Need-returns-6
-returns-6 c = ?
+returns-6 c = simp (c .enum-told6 .given .1) (omega arith)
 
 -- src/course.rt:76:1
 returns-7 : tie.Need-returns-7
-returns-7 c = ?
+returns-7 c = simp (c .enum-told7 .given .1) (omega arith)
 
 -- src/course.rt:76:1
 returns-8 : tie.Need-returns-8
-returns-8 c = ?
+returns-8 c = simp (c .enum-told8 .given .1) (omega arith)
 
 -- src/course.rt:76:1
 returns-9 : tie.Need-returns-9
-returns-9 c = ?
+returns-9 c = simp (c .enum-told9 .given .1) (omega arith)
 
 -- src/course.rt:76:1
 returns-10 : tie.Need-returns-10
-returns-10 c = ?
+returns-10 c = simp (c .enum-told10 .given .1) (omega arith)
 
 pub count-spec : {M : Type 1} → statement M
 count-spec =

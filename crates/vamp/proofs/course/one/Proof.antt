@@ -1,3 +1,4 @@
+use Rattle.vamp.proofs.Performs.{fetches, fetches-odd, fetches-past}
 use borrow.Author.Needs.{needs}
 use Rattle.vamp.proofs.course.one.Statement.{statement}
 use Rattle.vamp.proofs.course.one.Tie as tie
@@ -8,11 +9,11 @@ use Rattle.vamp.proofs.lanes.read.Reads as read-reads
 
 -- src/course.rt:106:9
 returns : tie.Need-returns
-returns c = ?
+returns c = fetches-odd _ (c .if1 .taken)
 
 -- src/course.rt:113:9
 returns-2 : tie.Need-returns-2
-returns-2 c = ?
+returns-2 c = fetches-past _ (c .before .if1 .left) (c .if2 .taken)
 
 -- src/course.rt:119:13
 read-requires : tie.Need-read-requires
@@ -28,7 +29,7 @@ same-length c = search needs
 
 -- src/course.rt:95:1
 returns-3 : tie.Need-returns-3
-returns-3 c = ?
+returns-3 c = fetches _ (c .before .before .before .before .before .before .before .before .before .if1 .left) (c .before .before .before .before .before .before .before .before .if2 .left) _ (c .before .before .before .before .before .before .read .ensures) _ (c .before .before .perform .ensures)
 
 pub one-spec : {M : Type 1} → statement M
 one-spec =
