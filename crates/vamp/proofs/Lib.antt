@@ -1,3 +1,4 @@
+mod Calls
 pub mod Memory
 pub mod Onward
 mod Performs
