@@ -62,6 +62,11 @@ module _ (m : Machine) (mem : List ℕ) where
       run-works n e =
           ap (λ (c : Course). (c .steps, c .answer, c .masked, withState m (c .left .0), c .left .1)) e ∙ worked
         where
-          worked : (onward n (start (stateOf m, mem)) .steps, onward n (start (stateOf m, mem)) .answer, onward n (start (stateOf m, mem)) .masked,
-              withState m (onward n (start (stateOf m, mem)) .left .0), onward n (start (stateOf m, mem)) .left .1) ≡ running m mem n
+          worked : (
+            onward n (start (stateOf m, mem)) .steps,
+            onward n (start (stateOf m, mem)) .answer,
+            onward n (start (stateOf m, mem)) .masked,
+            withState m (onward n (start (stateOf m, mem)) .left .0),
+            onward n (start (stateOf m, mem)) .left .1,
+          ) ≡ running m mem n
           worked = rw (running, eq-eqb (length mem) DOUBLE-WORDS l, z)

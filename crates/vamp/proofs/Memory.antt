@@ -177,6 +177,7 @@ put-below b n mem a v l h i = by (eqb i (a / 8)) refl (ltb (a / 8) (length mem))
   where
     x : ℕ
     x = patch b (a % 8) (getD mem (a / 8) 0) v
+
     by : (t : Bool) → eqb i (a / 8) ≡ t → (u : Bool) → ltb (a / 8) (length mem) ≡ u → getD (put b mem a v) i 0 < 2 ^ n
     by true t true u = rw (eqb-true i (a / 8) t, getD-set-same mem (a / 8) x 0 (ltb-true (a / 8) (length mem) u)) (patch-below b (a % 8) n (getD mem (a / 8) 0) v (h (a / 8)) l)
     by true t false u = rw (set-out mem (a / 8) x (ltb-false (a / 8) (length mem) u)) (h i)

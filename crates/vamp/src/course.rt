@@ -91,13 +91,7 @@ fn count(masked: u32, answer: Answer) -> u32
 }
 
 // One step: the events of its fetch, and the word.
-fn one(
-    dpc: u32,
-    pc: u32,
-    gpr: &mut [u32; 32],
-    spr: &mut [u32; 32],
-    memory: &mut [u64],
-) -> Moved
+fn one(dpc: u32, pc: u32, gpr: &mut [u32; 32], spr: &mut [u32; 32], memory: &mut [u64]) -> Moved
     requires { ⌜ length (now memory) ≡ DOUBLE-WORDS ⌝ }
     ensures { λ r. ⌜ (answered (r .answer), parts (r .dpc) (r .pc) (now (gpr .exit)) (now (spr .exit)) (now (memory .exit))) ≡ vstep (parts dpc pc (now (gpr .entry)) (now (spr .entry)) (now (memory .entry))) ⌝ }
 {

@@ -43,7 +43,11 @@ fn extended(h: u32, x: u32) -> u32
     requires { ⌜ (x < 2 * h) × (h ≤ 2 ^ 15) ⌝ }
     ensures { λ r. ⌜ r ≡ sext (signed h x) ⌝ }
 {
-    if x < h { x } else { 4294967295 - (2 * h - 1 - x) }
+    if x < h {
+        x
+    } else {
+        4294967295 - (2 * h - 1 - x)
+    }
 }
 
 // The b bits at an address.

@@ -1,18 +1,13 @@
-use native.Mathlib.Nat.{sub-zero}
-use Prim.Native.Nat.{ℕ, _-_, _≤_}
-use mathlib.Core.Path.{_≡_, refl, sym, ap, _∙_}
-use native.Mathlib.Omega.{arith}
+use Prim.Native.Nat.{_-_, _≤_}
 use borrow.Author.Needs.{needs}
 use lib.ListN.{length}
-use Rattle.vamp.specs.Steps.{answered, onward, start, parts, course}
+use mathlib.Core.Path.{_≡_, refl, sym, _∙_}
+use native.Mathlib.Nat.{sub-zero}
+use native.Mathlib.Omega.{arith}
 use Rattle.vamp.proofs.Onward.{goes-on, stops, ends, reported-most}
 use Rattle.vamp.proofs.course.go.Statement.{statement}
 use Rattle.vamp.proofs.course.go.Tie as tie
-use Rattle.vamp.proofs.course.go.Reads as reads
-use Rattle.vamp.proofs.course.go.Lts as lts
-use Rattle.vamp.proofs.Answer.number.Reads as number-reads
-use Rattle.vamp.proofs.course.count.Reads as count-reads
-use Rattle.vamp.proofs.course.one.Reads as one-reads
+use Rattle.vamp.specs.Steps.{answered, onward, start, parts, course}
 
 abbrev Inv-loop : tie.InvT-loop
 Inv-loop dpc pc gpr₀ spr₀ memory₀ limit at₀ next₀ steps₀ last₀ masked₀ gpr spr memory at next steps last masked =
@@ -22,47 +17,36 @@ abbrev μ-loop : tie.MeasureT-loop
 μ-loop dpc pc gpr₀ spr₀ memory₀ limit at₀ next₀ steps₀ last₀ masked₀ gpr spr memory at next steps last masked =
     limit - steps
 
--- src/course.rt:48:5
 loop-holds : tie.Need-loop-holds Inv-loop μ-loop
 loop-holds c = (omega arith, omega arith, refl, simp sub-zero)
 
--- src/course.rt:49:13
 one-requires : tie.Need-one-requires Inv-loop μ-loop
 one-requires c κs = search needs
 
--- src/course.rt:51:12
 number-requires : tie.Need-number-requires Inv-loop μ-loop
 number-requires c κs = search needs
 
--- src/course.rt:52:13
 same-length : tie.Need-same-length Inv-loop μ-loop
 same-length c = search needs
 
--- src/course.rt:52:13
 returns : tie.Need-returns Inv-loop μ-loop
 returns c = sym (stops _ _ _ _ (c .before .before .before .before .before .before .before .before .loop-test .taken) (c .before .before .before .before .one .ensures) (λ z. c .if1 .taken (c .before .number .ensures ∙ z))) ∙ c .before .before .before .before .before .before .before .before .before .loop .inv .3
 
--- src/course.rt:61:9
 count-requires : tie.Need-count-requires Inv-loop μ-loop
 count-requires c κs = search needs
 
--- src/course.rt:64:9
 add-steps : tie.Need-add-steps Inv-loop μ-loop
 add-steps c = search needs
 
--- src/course.rt:48:5
 loop-less : tie.Need-loop-less Inv-loop μ-loop
 loop-less c = search needs
 
--- src/course.rt:48:5
 loop-again : tie.Need-loop-again Inv-loop μ-loop
 loop-again c = let m = reported-most (answered (c .before .before .before .before .before .one .result .answer) .1) in (omega arith, omega (arith, c .count .ensures), search needs, sym (goes-on _ _ _ _ (c .before .before .before .before .before .before .before .before .before .loop-test .taken) (c .before .before .before .before .before .one .ensures) (sym (c .before .before .number .ensures) ∙ c .before .if1 .left) _ (c .count .ensures)) ∙ c .before .before .before .before .before .before .before .before .before .before .loop .inv .3)
 
--- src/course.rt:32:1
 same-length-2 : tie.Need-same-length-2 Inv-loop μ-loop
 same-length-2 c = search needs
 
--- src/course.rt:32:1
 returns-2 : tie.Need-returns-2 Inv-loop μ-loop
 returns-2 c = sym (ends _ _ _ (c .loop-test .left)) ∙ c .before .loop .inv .3
 
