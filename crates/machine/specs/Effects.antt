@@ -1,6 +1,6 @@
 -- Document 01, "What an instruction does", over tables 1.2 to 1.4: the effect of each instruction and its next PC', and what an effect leaves in the registers.
 use Prim.Native.Nat.{ℕ, _*_, _%_, _^_}
-use mathlib.Core.Bool.{Bool, true, false, not, _||_}
+use mathlib.Core.Bool.{Bool, true, false, not, _&&_, _||_}
 use mathlib.Core.List.{List, [], _∷_}
 use lib.Bits.{bitAnd, bitOr, bitXor}
 use lib.Dec.{eqb, ltb}
@@ -171,3 +171,31 @@ abbrev pub storeSize : StoreKind → ℕ
 storeSize Sb = 1
 storeSize Sh = 2
 storeSize Sw = 4
+
+-- ---- Questions about an effect
+
+-- Size and effective address of a load or store
+unfoldable pub access : Effect → Option (ℕ × ℕ)
+access (does.Put n x) = none
+access (does.PutSpecial n x) = none
+access (does.Sum n x o) = none
+access (does.Load k n a) = some (loadSize k, a)
+access (does.Store k a x) = some (storeSize k, a)
+access (does.Trap z) = none
+access does.Return = none
+access does.Nothing = none
+
+-- A load or store with ea not a multiple of its size
+unfoldable pub askew : Effect → Bool
+askew e = elim (access e) [ some p ↦ not (eqb (p .1 % p .0) 0) | none ↦ false ]
+
+-- movi2s to MODE of a value other than 0
+unfoldable pub modeSet : Effect → Bool
+modeSet (does.Put n x) = false
+modeSet (does.PutSpecial n x) = eqb n MODE && not (eqb x 0)
+modeSet (does.Sum n x o) = false
+modeSet (does.Load k n a) = false
+modeSet (does.Store k a x) = false
+modeSet (does.Trap z) = false
+modeSet does.Return = false
+modeSet does.Nothing = false

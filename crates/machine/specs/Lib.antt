@@ -1,3 +1,4 @@
 pub mod Rulings
 pub mod Effects
 pub mod Record
+pub mod Starred

@@ -11,7 +11,7 @@ use words::Shift;
 const SIGN: u32 = 2147483648;
 
 // The word of a whole number.
-pub fn sext_of(imm: i32) -> u32
+pub(crate) fn sext_of(imm: i32) -> u32
     ensures { λ r. ⌜ r ≡ sext imm ⌝ }
 {
     let lifted = imm as i64 + 4294967296;
@@ -19,7 +19,7 @@ pub fn sext_of(imm: i32) -> u32
 }
 
 // Whether a is less than b as numbers in two's complement.
-pub fn less(a: u32, b: u32) -> bool
+pub(crate) fn less(a: u32, b: u32) -> bool
     ensures { λ r. ⌜ r ≡ ltZ (integer a) (integer b) ⌝ }
 {
     if a < SIGN {
@@ -30,7 +30,7 @@ pub fn less(a: u32, b: u32) -> bool
 }
 
 // The shift of x by the low five bits of n.
-pub fn shift(kind: Shift, x: u32, n: u32) -> u32
+pub(crate) fn shift(kind: Shift, x: u32, n: u32) -> u32
     ensures { λ r. ⌜ r ≡ shifted kind x n ⌝ }
 {
     let places = n % 32;
@@ -55,14 +55,14 @@ fn copying(x: u32, places: u32) -> u32
 }
 
 // The low 16 bits of x times 65,536.
-pub fn high_of(x: u32) -> u32
+pub(crate) fn high_of(x: u32) -> u32
     ensures { λ r. ⌜ r ≡ high x ⌝ }
 {
     (x % 65536) * 65536
 }
 
 // 1 where the comparison holds, else 0.
-pub fn compare(kind: Comparison, a: u32, b: u32) -> u32
+pub(crate) fn compare(kind: Comparison, a: u32, b: u32) -> u32
     ensures { λ r. ⌜ r ≡ compared kind a b ⌝ }
 {
     match kind {
@@ -82,21 +82,21 @@ fn flag(holds: bool) -> u32
 }
 
 // a less b, modulo 2^32.
-pub fn difference(a: u32, b: u32) -> u32
+pub(crate) fn difference(a: u32, b: u32) -> u32
     ensures { λ r. ⌜ r ≡ minus a b ⌝ }
 {
     std::num::wrapping_sub_u32(a, b)
 }
 
 // Whether the signed sum lies beyond the words. Both sides are lifted by 2^31, so the sum is lifted by 2^32.
-pub fn sum_beyond(a: u32, b: u32) -> bool
+pub(crate) fn sum_beyond(a: u32, b: u32) -> bool
     ensures { λ r. ⌜ r ≡ beyond (integer a +ℤ integer b) ⌝ }
 {
     apart(lift(a) + lift(b), 4294967296)
 }
 
 // Whether the signed difference lies beyond the words. Both sides are lifted by 2^31.
-pub fn difference_beyond(a: u32, b: u32) -> bool
+pub(crate) fn difference_beyond(a: u32, b: u32) -> bool
     ensures { λ r. ⌜ r ≡ beyond (integer a -ℤ integer b) ⌝ }
 {
     apart(lift(a), lift(b))

@@ -14,7 +14,7 @@ use std::num::wrapping_add_u32;
 use words::Arithmetic;
 
 // Sums, differences and logical operations.
-pub fn compute(kind: Arithmetic, rd: u8, a: u32, b: u32) -> Effect
+pub(crate) fn compute(kind: Arithmetic, rd: u8, a: u32, b: u32) -> Effect
     ensures { λ r. ⌜ r ≡ computed kind rd a b ⌝ }
 {
     match kind {
@@ -28,20 +28,20 @@ pub fn compute(kind: Arithmetic, rd: u8, a: u32, b: u32) -> Effect
     }
 }
 
-pub fn put(rd: u8, value: u32, next: u32) -> Act
+pub(crate) fn put(rd: u8, value: u32, next: u32) -> Act
     ensures { λ r. ⌜ (r .effect ≡ Effect.Put rd value) × (r .next ≡ next) ⌝ }
 {
     also(Effect::Put(rd, value), next)
 }
 
-pub fn also(effect: Effect, next: u32) -> Act
+pub(crate) fn also(effect: Effect, next: u32) -> Act
     ensures { λ r. ⌜ (r .effect ≡ effect) × (r .next ≡ next) ⌝ }
 {
     Act { effect, next }
 }
 
 // The next PC' of a branch.
-pub fn branch(taken: bool, pc: u32, imm: i32) -> u32
+pub(crate) fn branch(taken: bool, pc: u32, imm: i32) -> u32
     ensures { λ r. ⌜ r ≡ plus pc (pick taken (sext imm) 4) ⌝ }
 {
     if taken {
@@ -52,7 +52,7 @@ pub fn branch(taken: bool, pc: u32, imm: i32) -> u32
 }
 
 // The effective address.
-pub fn address(gpr: &[u32; 32], rs1: u8, imm: i32) -> u32
+pub(crate) fn address(gpr: &[u32; 32], rs1: u8, imm: i32) -> u32
     ensures { λ r. ⌜ r ≡ plus (register (now (gpr .entry)) rs1) (sext imm) ⌝ }
 {
     wrapping_add_u32(value(gpr, rs1), sext_of(imm))

@@ -8,6 +8,7 @@ mod arithmetic;
 mod effects;
 pub mod refusals;
 mod registers;
+pub mod sizes;
 
 use arithmetic::compare;
 use arithmetic::high_of;

@@ -3,7 +3,7 @@ ghost use mathlib.Core.Path.{_≡_};
 ghost use Rattle.machine.specs.Effects.{register, put, putSpecial};
 use crate::Machine;
 
-pub fn value(gpr: &[u32; 32], number: u8) -> u32
+pub(crate) fn value(gpr: &[u32; 32], number: u8) -> u32
     ensures { λ r. ⌜ r ≡ register (now (gpr .entry)) number ⌝ }
 {
     let at = number as usize;
@@ -11,7 +11,7 @@ pub fn value(gpr: &[u32; 32], number: u8) -> u32
 }
 
 // R0 is always 0: a write to it is dropped.
-pub fn write(gpr: &mut [u32; 32], number: u8, value: u32)
+pub(crate) fn write(gpr: &mut [u32; 32], number: u8, value: u32)
     ensures { λ _. ⌜ now (gpr .exit) ≡ put (now (gpr .entry)) number value ⌝ }
 {
     let at = number as usize;
@@ -24,7 +24,7 @@ pub fn write(gpr: &mut [u32; 32], number: u8, value: u32)
 }
 
 // A write to a special register that is none of the thirteen is dropped.
-pub fn write_special(spr: &mut [u32; 32], number: u8, value: u32)
+pub(crate) fn write_special(spr: &mut [u32; 32], number: u8, value: u32)
     ensures { λ _. ⌜ now (spr .exit) ≡ putSpecial (now (spr .entry)) number value ⌝ }
 {
     let at = number as usize;

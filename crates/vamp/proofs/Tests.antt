@@ -15,19 +15,19 @@ pub even : (size a : ℕ) → odd size a ≡ false → a % size ≡ 0
 even size a h = eqb-true (a % size) 0 (not-false (eqb (a % size) 0) h)
 
 -- An access with no event
-pub record Inside (size a : ℕ) : Type 0 where
-  pub aligned : odd size a ≡ false
+pub record Inside (t : Bool) (a : ℕ) : Type 0 where
+  pub aligned : t ≡ false
   pub within : a < MEMORY
-  pub clear : accessEvent size a ≡ (0, 0)
+  pub clear : accessEvent t a ≡ (0, 0)
 
-pub inside : (size a : ℕ) → accessEvent size a .0 ≡ 0 → Inside size a
+pub inside : (t : Bool) (a : ℕ) → accessEvent t a .0 ≡ 0 → Inside t a
 unfolding accessEvent
-inside size a h = by (odd size a) refl (beyond a) refl
+inside true a h = absurd (let z : _≡_ {A = ℕ} 31 0 = h in omega arith)
+inside false a h = by (beyond a) refl
   where
-    by : (s : Bool) → odd size a ≡ s → (t : Bool) → beyond a ≡ t → Inside size a
-    by true e t d = absurd (let z : _≡_ {A = ℕ} 31 0 = rw e at h in omega arith)
-    by false e true d = absurd (let z : _≡_ {A = ℕ} 32 0 = rw (e, d) at h in omega arith)
-    by false e false d = record { aligned = e; within = leb-false MEMORY a d; clear = rw (e, d) }
+    by : (u : Bool) → beyond a ≡ u → Inside false a
+    by true d = absurd (let z : _≡_ {A = ℕ} 32 0 = rw d at h in omega arith)
+    by false d = record { aligned = refl; within = leb-false MEMORY a d; clear = rw d }
 
 -- What an answer decides
 module _ {A : Type 0} (n : ℕ) (x y : A) where

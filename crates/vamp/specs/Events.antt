@@ -2,12 +2,13 @@
 use Prim.Native.Nat.{ℕ, _/_, _%_, _^_}
 use mathlib.Core.Bool.{Bool, true, false, not, _&&_}
 use mathlib.Core.List.{List, [], _∷_}
+use mathlib.Core.Option.{Option, none, some}
 use lib.Dec.{eqb, leb}
 use lib.IntN.{ℤ}
 use Rattle.words.specs.Words.{reading}
 use Rattle.machine.specs.declared.Effect.{Effect}
 use Rattle.machine.specs.declared.Effect.the-variants as does
-use Rattle.machine.specs.Effects.{State, act, register, loadSize, storeSize, SR, MODE}
+use Rattle.machine.specs.Effects.{State, act, register, access, askew, modeSet, SR}
 use Rattle.machine.specs.Record.{MEMORY, first}
 use Rattle.vamp.specs.Memory.{at}
 
@@ -56,27 +57,11 @@ beyond a = leb MEMORY a
 unfoldable pub illegal : ℕ → Bool
 illegal w = eqb (reading w .0) 23
 
--- A load or store with ea not a multiple of its size (1, 2, 4)
-unfoldable pub oddAccess : Effect → Bool
-oddAccess (does.Put n x) = false
-oddAccess (does.PutSpecial n x) = false
-oddAccess (does.Sum n x o) = false
-oddAccess (does.Load k n a) = odd (loadSize k) a
-oddAccess (does.Store k a x) = odd (storeSize k) a
-oddAccess (does.Trap z) = false
-oddAccess does.Return = false
-oddAccess does.Nothing = false
+-- A load or store with ea not a multiple of its size (1, 2, 4) is `askew` of the effect
 
--- A load or store past modelled memory. (One that is a multiple of its size lies in memory wholly or not at all.)
+-- A load or store past modelled memory. (One that is a multiple of its size lies in memory wholly or not at all)
 unfoldable pub accessPast : Effect → Bool
-accessPast (does.Put n x) = false
-accessPast (does.PutSpecial n x) = false
-accessPast (does.Sum n x o) = false
-accessPast (does.Load k n a) = beyond a
-accessPast (does.Store k a x) = beyond a
-accessPast (does.Trap z) = false
-accessPast does.Return = false
-accessPast does.Nothing = false
+accessPast e = elim (access e) [ some p ↦ beyond (p .1) | none ↦ false ]
 
 -- trap
 unfoldable pub trapped : Effect → Bool
@@ -104,16 +89,7 @@ overflowed does.Nothing = false
 unfoldable pub overflowMasked : List ℕ → Bool
 overflowMasked p = eqb (register p SR / 2 ^ 6 % 2) 0
 
--- movi2s to MODE of a value other than 0
-unfoldable pub modeSet : Effect → Bool
-modeSet (does.Put n x) = false
-modeSet (does.PutSpecial n x) = eqb n MODE && not (eqb x 0)
-modeSet (does.Sum n x o) = false
-modeSet (does.Load k n a) = false
-modeSet (does.Store k a x) = false
-modeSet (does.Trap z) = false
-modeSet does.Return = false
-modeSet does.Nothing = false
+-- movi2s to MODE of a value other than 0 is `modeSet` of the effect
 
 -- ---- The order
 
@@ -125,7 +101,7 @@ fetched mem s = at 32 mem (s .dpc)
 abbrev pub effectEvents : Effect → List ℕ → List (Bool × (ℕ × ℕ))
 effectEvents e p =
     -- 4. Load or store with ea not a multiple of its size: bit 2
-    (oddAccess e, interrupt MISALIGNED) ∷
+    (askew e, interrupt MISALIGNED) ∷
     -- 5. Load or store past modelled memory: answer 32
     (accessPast e, past) ∷
     -- 6. trap: bit 5

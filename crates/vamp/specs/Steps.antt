@@ -11,7 +11,7 @@ use Rattle.machine.specs.declared.Effect.the-variants as does
 use Rattle.machine.specs.Effects.{State, act, moved}
 use Rattle.machine.specs.Record.{first, notZero, stateOf, withState}
 use Rattle.vamp.specs.Memory.{DOUBLE-WORDS, loaded, stored}
-use Rattle.vamp.specs.Events.{odd, beyond, fetched, event, effectEvent, stepped, interrupt, past, mode, ILLEGAL, MISALIGNED, TRAP, OVERFLOW}
+use Rattle.vamp.specs.Events.{beyond, fetched, event, effectEvent, stepped, interrupt, past, mode, ILLEGAL, MISALIGNED, TRAP, OVERFLOW}
 use Rattle.vamp.specs.declared.Answer.{Answer}
 use Rattle.vamp.specs.declared.Answer.the-variants as says
 
@@ -106,9 +106,9 @@ parts dpc pc g p mem = (record { dpc = dpc; pc = pc; gpr = g; spr = p }, mem)
 abbrev pub course : ℕ → ℕ × ℕ → ℕ → Vamp → Course
 course n a m x = record { steps = n; answer = a; masked = m; left = x }
 
--- Events 4 and 5 of an access
-unfoldable pub accessEvent : ℕ → ℕ → ℕ × ℕ
-accessEvent size a = first ((odd size a, interrupt MISALIGNED) ∷ (beyond a, past) ∷ []) (stepped 0)
+-- Events 4 and 5 of an access at a, askew or not
+unfoldable pub accessEvent : Bool → ℕ → ℕ × ℕ
+accessEvent t a = first ((t, interrupt MISALIGNED) ∷ (beyond a, past) ∷ []) (stepped 0)
 
 -- The events of an effect, what its load finds, and memory after it
 abbrev pub touched : Effect → List ℕ → List ℕ → (ℕ × ℕ) × ℕ × List ℕ

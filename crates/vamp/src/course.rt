@@ -12,7 +12,7 @@ use machine::Machine;
 use words::Reading;
 
 // The steps taken, the answer of the last step, how many of the steps taken reported a cause, and the counters.
-pub struct Course {
+pub(crate) struct Course {
     pub steps: u32,
     pub answer: Answer,
     pub masked: u32,
@@ -28,7 +28,7 @@ struct Moved {
 }
 
 // Up to `limit` steps, that stop before the first one whose answer is not 0.
-pub fn go(
+pub(crate) fn go(
     dpc: u32,
     pc: u32,
     gpr: &mut [u32; 32],

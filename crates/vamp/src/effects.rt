@@ -2,23 +2,26 @@
 ghost use mathlib.Core.Path.{_≡_};
 ghost use lib.ListN.{length};
 ghost use Rattle.machine.specs.Effects.{loadSize, storeSize};
+ghost use Rattle.vamp.specs.Events.{odd};
 ghost use Rattle.vamp.specs.Memory.{DOUBLE-WORDS, loaded, stored};
 ghost use Rattle.vamp.specs.Steps.{answered, accessEvent, took, touched};
 use crate::Answer;
 use crate::events;
 use crate::lanes;
 use machine::Effect;
+use machine::sizes::load_askew;
+use machine::sizes::store_askew;
 use words::LoadKind;
 use words::StoreKind;
 
 // The answer of a step by its effect, and what the effect's load found.
-pub struct Touched {
+pub(crate) struct Touched {
     pub answer: Answer,
     pub loaded: u32,
 }
 
 // Finds the events of an effect. Where the step is taken, its load is found or its store is put.
-pub fn touch(effect: Effect, spr: &[u32; 32], memory: &mut [u64]) -> Touched
+pub(crate) fn touch(effect: Effect, spr: &[u32; 32], memory: &mut [u64]) -> Touched
     requires { ⌜ length (now memory) ≡ DOUBLE-WORDS ⌝ }
     ensures { λ r. ⌜ (answered (r .answer), r .loaded, now (memory .exit)) ≡ touched effect (now (spr .entry)) (now (memory .entry)) ⌝ }
 {
@@ -43,9 +46,9 @@ fn bare(answer: Answer) -> Touched
 // A load: its events, and what it finds.
 fn find(kind: LoadKind, memory: &[u64], address: u32) -> Touched
     requires { ⌜ length (now memory) ≡ DOUBLE-WORDS ⌝ }
-    ensures { λ r. ⌜ (answered (r .answer) ≡ accessEvent (loadSize kind) address) × (r .loaded ≡ took (accessEvent (loadSize kind) address .0) (loaded kind (now (memory .entry)) address) 0) ⌝ }
+    ensures { λ r. ⌜ (answered (r .answer) ≡ accessEvent (odd (loadSize kind) address) address) × (r .loaded ≡ took (accessEvent (odd (loadSize kind) address) address .0) (loaded kind (now (memory .entry)) address) 0) ⌝ }
 {
-    let answer = events::load(kind, address);
+    let answer = events::access(load_askew(kind, address), address);
     if answer.number() != 0 {
         return bare(answer);
     }
@@ -58,9 +61,9 @@ fn find(kind: LoadKind, memory: &[u64], address: u32) -> Touched
 // A store: its events, and what it puts.
 fn keep(kind: StoreKind, memory: &mut [u64], address: u32, value: u32) -> Answer
     requires { ⌜ length (now memory) ≡ DOUBLE-WORDS ⌝ }
-    ensures { λ r. ⌜ (answered r ≡ accessEvent (storeSize kind) address) × (now (memory .exit) ≡ took (accessEvent (storeSize kind) address .0) (stored kind (now (memory .entry)) address value) (now (memory .entry))) ⌝ }
+    ensures { λ r. ⌜ (answered r ≡ accessEvent (odd (storeSize kind) address) address) × (now (memory .exit) ≡ took (accessEvent (odd (storeSize kind) address) address .0) (stored kind (now (memory .entry)) address value) (now (memory .entry))) ⌝ }
 {
-    let answer = events::store(kind, address);
+    let answer = events::access(store_askew(kind, address), address);
     if answer.number() != 0 {
         return answer;
     }

@@ -13,7 +13,7 @@ use words::LoadKind;
 use words::StoreKind;
 
 // lb and lh extend the sign, lbu and lhu by zeros.
-pub fn load(kind: LoadKind, memory: &[u64], address: u32) -> u32
+pub(crate) fn load(kind: LoadKind, memory: &[u64], address: u32) -> u32
     requires { ⌜ (length (now memory) ≡ DOUBLE-WORDS) × (address < MEMORY) ⌝ }
     ensures { λ r. ⌜ r ≡ loaded kind (now (memory .entry)) address ⌝ }
 {
@@ -27,7 +27,7 @@ pub fn load(kind: LoadKind, memory: &[u64], address: u32) -> u32
 }
 
 // The low bits of a value are stored.
-pub fn store(kind: StoreKind, memory: &mut [u64], address: u32, value: u32)
+pub(crate) fn store(kind: StoreKind, memory: &mut [u64], address: u32, value: u32)
     requires { ⌜ (length (now memory) ≡ DOUBLE-WORDS) × (address < MEMORY) × (odd (storeSize kind) address ≡ false) ⌝ }
     ensures { λ _. ⌜ now (memory .exit) ≡ stored kind (now (memory .entry)) address value ⌝ }
 {
@@ -51,7 +51,7 @@ fn extended(h: u32, x: u32) -> u32
 }
 
 // The b bits at an address.
-pub fn read(b: u32, memory: &[u64], address: u32) -> u32
+pub(crate) fn read(b: u32, memory: &[u64], address: u32) -> u32
     requires { ⌜ (length (now memory) ≡ DOUBLE-WORDS) × (address < MEMORY) × (b ≤ 32) ⌝ }
     ensures { λ r. ⌜ r ≡ at b (now (memory .entry)) address ⌝ }
 {

@@ -22,7 +22,7 @@ abbrev pub count : (ℕ → Bool) → ℕ → ℕ → ℕ
 count p lo zero = 0
 count p lo (suc n) = pick (p lo) 1 0 + count p (suc lo) n
 
--- Opcode 00 has 26 functions; of the other 63 opcodes 32 are legal, whatever stands in the function's bits; no opcode past 63 is
+-- Opcode 00 has 26 functions; of the other 63 opcodes 32 are legal, whatever stands in the function's bits
 pub functions : count (legal 0x00) 0 64 ≡ 26
 functions = refl
 

@@ -3,7 +3,7 @@ ghost use mathlib.Core.Path.{_≡_};
 ghost use Rattle.words.specs.Fields.{opcode, function, rs1, second, third, amount, immediate16, immediate26};
 
 // The four fields of five bits.
-pub struct Fields {
+pub(crate) struct Fields {
     pub rs1: u8,
     // RD of an I word, RS2 of an R word.
     pub second: u8,
@@ -12,19 +12,19 @@ pub struct Fields {
     pub amount: u8,
 }
 
-pub fn opcode_of(word: u32) -> u32
+pub(crate) fn opcode_of(word: u32) -> u32
     ensures { λ r. ⌜ r ≡ opcode word ⌝ }
 {
     word >> 26
 }
 
-pub fn function_of(word: u32) -> u32
+pub(crate) fn function_of(word: u32) -> u32
     ensures { λ r. ⌜ r ≡ function word ⌝ }
 {
     word % 64
 }
 
-pub fn fields_of(word: u32) -> Fields
+pub(crate) fn fields_of(word: u32) -> Fields
     ensures { λ r. ⌜ (r .rs1 ≡ rs1 word) × (r .second ≡ second word) × (r .third ≡ third word) × (r .amount ≡ amount word) ⌝ }
 {
     Fields {
@@ -36,14 +36,14 @@ pub fn fields_of(word: u32) -> Fields
 }
 
 // The two halves of the field's range change places, and half the range is taken off again: no branch.
-pub fn immediate16_of(word: u32) -> i32
+pub(crate) fn immediate16_of(word: u32) -> i32
     ensures { λ r. ⌜ r ≡ immediate16 word ⌝ }
 {
     let turned = (word % 65536 + 32768) % 65536;
     turned as i32 - 32768
 }
 
-pub fn immediate26_of(word: u32) -> i32
+pub(crate) fn immediate26_of(word: u32) -> i32
     ensures { λ r. ⌜ r ≡ immediate26 word ⌝ }
 {
     let turned = (word % 67108864 + 33554432) % 67108864;

@@ -8,7 +8,7 @@ use crate::Made;
 // Registers and SA are below this.
 const REGISTERS: u8 = 32;
 
-pub fn register(rs1: u8, rs2: u8, rd: u8, sa: u8, function: u32) -> Made
+pub(crate) fn register(rs1: u8, rs2: u8, rd: u8, sa: u8, function: u32) -> Made
     requires { ⌜ function < 64 ⌝ }
     ensures { λ r. ⌜ madeAnswer r ≡ laid (formR (used rs1) (used rs2) (used rd) (used sa) function) ⌝ }
 {
@@ -33,7 +33,7 @@ pub fn register(rs1: u8, rs2: u8, rd: u8, sa: u8, function: u32) -> Made
     )
 }
 
-pub fn immediate(opcode: u32, rs1: u8, rd: u8, imm: i32) -> Made
+pub(crate) fn immediate(opcode: u32, rs1: u8, rd: u8, imm: i32) -> Made
     requires { ⌜ opcode < 64 ⌝ }
     ensures { λ r. ⌜ madeAnswer r ≡ laid (formI opcode (used rs1) (used rd) (used imm)) ⌝ }
 {
@@ -54,7 +54,7 @@ pub fn immediate(opcode: u32, rs1: u8, rd: u8, imm: i32) -> Made
     )
 }
 
-pub fn jump(opcode: u32, imm: i32) -> Made
+pub(crate) fn jump(opcode: u32, imm: i32) -> Made
     requires { ⌜ opcode < 64 ⌝ }
     ensures { λ r. ⌜ madeAnswer r ≡ laid (formJ opcode (used imm)) ⌝ }
 {

@@ -1,15 +1,13 @@
 // The members of the groups, by their numbers. Each group's two forms have the same order, so one function serves both.
 ghost use mathlib.Core.Path.{_≡_};
 ghost use Prim.Native.Nat.{_≤_};
-ghost use Rattle.words.specs.Words.{shiftImmediateNo, arithmeticImmediateNo, compareImmediateNo, loadNo, storeNo};
+ghost use Rattle.words.specs.Words.{shiftImmediateNo, arithmeticImmediateNo, compareImmediateNo};
 use crate::Arithmetic;
 use crate::Comparison;
-use crate::LoadKind;
 use crate::Shift;
-use crate::StoreKind;
 
 // The shift with the function number of its immediate form.
-pub fn shift_of(number: u32) -> Shift
+pub(crate) fn shift_of(number: u32) -> Shift
     requires { ⌜ number ≤ 0x03 ⌝ }
     ensures { λ r. ⌜ shiftImmediateNo r ≡ number ⌝ }
 {
@@ -22,7 +20,7 @@ pub fn shift_of(number: u32) -> Shift
 }
 
 // The operation with the opcode of its immediate form.
-pub fn arithmetic_of(number: u32) -> Arithmetic
+pub(crate) fn arithmetic_of(number: u32) -> Arithmetic
     requires { ⌜ (0x08 ≤ number) × (number ≤ 0x0E) ⌝ }
     ensures { λ r. ⌜ arithmeticImmediateNo r ≡ number ⌝ }
 {
@@ -38,7 +36,7 @@ pub fn arithmetic_of(number: u32) -> Arithmetic
 }
 
 // The comparison with the opcode of its immediate form.
-pub fn comparison_of(number: u32) -> Comparison
+pub(crate) fn comparison_of(number: u32) -> Comparison
     requires { ⌜ (0x19 ≤ number) × (number ≤ 0x1E) ⌝ }
     ensures { λ r. ⌜ compareImmediateNo r ≡ number ⌝ }
 {

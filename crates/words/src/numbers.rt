@@ -9,7 +9,7 @@ use crate::Shift;
 use crate::StoreKind;
 
 // slli, slai, srli, srai.
-pub fn shift_immediate(member: Shift) -> u32
+pub(crate) fn shift_immediate(member: Shift) -> u32
     ensures { λ r. ⌜ (r ≡ shiftImmediateNo member) × (r < 64) ⌝ }
 {
     match member {
@@ -21,7 +21,7 @@ pub fn shift_immediate(member: Shift) -> u32
 }
 
 // sll, sla, srl, sra.
-pub fn shift_register(member: Shift) -> u32
+pub(crate) fn shift_register(member: Shift) -> u32
     ensures { λ r. ⌜ (r ≡ shiftRegisterNo member) × (r < 64) ⌝ }
 {
     match member {
@@ -33,7 +33,7 @@ pub fn shift_register(member: Shift) -> u32
 }
 
 // addo, add, subo, sub, and, or, xor.
-pub fn arithmetic_register(member: Arithmetic) -> u32
+pub(crate) fn arithmetic_register(member: Arithmetic) -> u32
     ensures { λ r. ⌜ (r ≡ arithmeticRegisterNo member) × (r < 64) ⌝ }
 {
     match member {
@@ -48,7 +48,7 @@ pub fn arithmetic_register(member: Arithmetic) -> u32
 }
 
 // sgr, seq, sge, sls, sne, sle.
-pub fn compare_register(member: Comparison) -> u32
+pub(crate) fn compare_register(member: Comparison) -> u32
     ensures { λ r. ⌜ (r ≡ compareRegisterNo member) × (r < 64) ⌝ }
 {
     match member {
@@ -62,7 +62,7 @@ pub fn compare_register(member: Comparison) -> u32
 }
 
 // addio, addi, subio, subi, andi, ori, xori.
-pub fn arithmetic_immediate(member: Arithmetic) -> u32
+pub(crate) fn arithmetic_immediate(member: Arithmetic) -> u32
     ensures { λ r. ⌜ (r ≡ arithmeticImmediateNo member) × (r < 64) ⌝ }
 {
     match member {
@@ -77,7 +77,7 @@ pub fn arithmetic_immediate(member: Arithmetic) -> u32
 }
 
 // sgri, seqi, sgei, slsi, snei, slei.
-pub fn compare_immediate(member: Comparison) -> u32
+pub(crate) fn compare_immediate(member: Comparison) -> u32
     ensures { λ r. ⌜ (r ≡ compareImmediateNo member) × (r < 64) ⌝ }
 {
     match member {
@@ -91,7 +91,7 @@ pub fn compare_immediate(member: Comparison) -> u32
 }
 
 // lb, lh, lw, lbu, lhu.
-pub fn load(member: LoadKind) -> u32
+pub(crate) fn load(member: LoadKind) -> u32
     ensures { λ r. ⌜ (r ≡ loadNo member) × (r < 64) ⌝ }
 {
     match member {
@@ -104,7 +104,7 @@ pub fn load(member: LoadKind) -> u32
 }
 
 // sb, sh, sw.
-pub fn store(member: StoreKind) -> u32
+pub(crate) fn store(member: StoreKind) -> u32
     ensures { λ r. ⌜ (r ≡ storeNo member) × (r < 64) ⌝ }
 {
     match member {

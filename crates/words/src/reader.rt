@@ -17,7 +17,7 @@ use crate::members::comparison_of;
 use crate::members::shift_of;
 
 // Opcode 00: the R words, by their function.
-pub fn register(word: u32) -> Reading
+pub(crate) fn register(word: u32) -> Reading
     requires { ⌜ opcode word ≡ 0x00 ⌝ }
     ensures { λ r. ⌜ readingAnswer r ≡ reading word ⌝ }
 {
@@ -58,7 +58,7 @@ pub fn register(word: u32) -> Reading
 }
 
 // j, jal, beqz, bnez.
-pub fn transfer(word: u32, number: u32) -> Instruction
+pub(crate) fn transfer(word: u32, number: u32) -> Instruction
     requires { ⌜ (opcode word ≡ number) × (0x02 ≤ number) × (number ≤ 0x05) ⌝ }
     ensures { λ r. ⌜ reading word ≡ (0, some r) ⌝ }
 {
@@ -72,7 +72,7 @@ pub fn transfer(word: u32, number: u32) -> Instruction
 }
 
 // addio, addi, subio, subi, andi, ori, xori, lhgi.
-pub fn arithmetic(word: u32, number: u32) -> Instruction
+pub(crate) fn arithmetic(word: u32, number: u32) -> Instruction
     requires { ⌜ (opcode word ≡ number) × (0x08 ≤ number) × (number ≤ 0x0F) ⌝ }
     ensures { λ r. ⌜ reading word ≡ (0, some r) ⌝ }
 {
@@ -90,7 +90,7 @@ pub fn arithmetic(word: u32, number: u32) -> Instruction
 }
 
 // jr, jalr, clri, sgri, seqi, sgei, slsi, snei, slei, seti.
-pub fn test(word: u32, number: u32) -> Instruction
+pub(crate) fn test(word: u32, number: u32) -> Instruction
     requires { ⌜ (opcode word ≡ number) × (0x16 ≤ number) × (number ≤ 0x1F) ⌝ }
     ensures { λ r. ⌜ reading word ≡ (0, some r) ⌝ }
 {
@@ -110,7 +110,7 @@ pub fn test(word: u32, number: u32) -> Instruction
 }
 
 // lb, lh, lw, lbu, lhu, sb, sh, sw; 22, 26, 27 and 2A are no words.
-pub fn memory(word: u32, number: u32) -> Reading
+pub(crate) fn memory(word: u32, number: u32) -> Reading
     requires { ⌜ (opcode word ≡ number) × (0x20 ≤ number) × (number ≤ 0x2B) ⌝ }
     ensures { λ r. ⌜ readingAnswer r ≡ reading word ⌝ }
 {
@@ -136,7 +136,7 @@ pub fn memory(word: u32, number: u32) -> Reading
 }
 
 // trap, rfe.
-pub fn system(word: u32, number: u32) -> Instruction
+pub(crate) fn system(word: u32, number: u32) -> Instruction
     requires { ⌜ (opcode word ≡ number) × (0x3E ≤ number) × (number ≤ 0x3F) ⌝ }
     ensures { λ r. ⌜ reading word ≡ (0, some r) ⌝ }
 {

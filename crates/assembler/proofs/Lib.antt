@@ -1,0 +1,5 @@
+pub mod Tests
+pub mod Fold
+pub mod Refusals
+pub mod Theorems
+pub mod Beyond

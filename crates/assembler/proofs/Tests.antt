@@ -1,0 +1,128 @@
+-- The tests of a step by the kinds of effect.
+use Prim.Native.Nat.{ℕ, _%_, _<_}
+use native.Mathlib.Omega.{arith}
+use mathlib.Core.Path.{_≡_, refl, sym, ap, _∙_}
+use mathlib.Core.Bool.{Bool, true, false, not}
+use mathlib.Core.List.{List, [], _∷_}
+use mathlib.Core.Option.{Option, none, some}
+use borrow.Author.Tests.{not-false, eq-eqb, ne-eqb, eqb-true}
+use lib.Dec.{eqb}
+use Rattle.words.specs.declared.LoadKind.{LoadKind}
+use Rattle.words.specs.declared.StoreKind.{StoreKind}
+use Rattle.machine.specs.declared.Effect.{Effect}
+use Rattle.machine.specs.declared.Effect.the-variants as does
+use Rattle.machine.specs.declared.Region.{Region}
+use Rattle.words.specs.Words.{reading}
+use Rattle.words.specs.declared.Instruction.{Instruction}
+use Rattle.machine.specs.Effects.{State, access, act, meaning, applied, moved, askew, modeSet}
+use Rattle.machine.specs.Record.{holds, first}
+use Rattle.assembler.specs.Checks.{outside, runs, illegal, foreign, fetched, violation, found, left, next}
+
+-- A load or store that is not outside the region has an address in it
+pub load-inside : (d : Region) (e : Effect) (k : LoadKind) (n a : ℕ) → e ≡ does.Load k n a → outside d e ≡ false → holds d a ≡ true
+unfolding outside access
+load-inside d e k n a q o = not-false (holds d a) (rw q at o)
+
+pub store-inside : (d : Region) (e : Effect) (k : StoreKind) (a x : ℕ) → e ≡ does.Store k a x → outside d e ≡ false → holds d a ≡ true
+unfolding outside access
+store-inside d e k a x q o = not-false (holds d a) (rw q at o)
+
+-- The reading of a word decides what it does, and the tests 23 and 24
+pub act-reads : (w : ℕ) (i : Instruction) (s : State) → reading w ≡ (0, some i) → act w s ≡ meaning i (s .pc) (s .gpr) (s .spr)
+unfolding act
+act-reads w i s e = rw (e, act)
+
+illegal-not : (w : ℕ) (i : Instruction) → reading w ≡ (0, some i) → illegal w ≡ false
+unfolding illegal
+illegal-not w i e = rw e
+
+foreign-runs : (w : ℕ) (i : Instruction) → reading w ≡ (0, some i) → foreign w ≡ not (runs i)
+unfolding foreign
+foreign-runs w i e = rw (e, foreign)
+
+-- The tests of a step in order, each where the earlier ones hold nothing against it
+module _ (c d : Region) (code : List ℕ) (s : State) where
+  pub stop-21 : (s .dpc % 4 ≡ 0 → ⊥) → violation c d code s ≡ 21
+  unfolding violation
+  stop-21 f = rw (ne-eqb (s .dpc % 4) 0 f)
+
+  pub stop-22 : s .dpc % 4 ≡ 0 → holds c (s .dpc) ≡ false → violation c d code s ≡ 22
+  unfolding violation
+  stop-22 a f = rw (eq-eqb (s .dpc % 4) 0 a, f)
+
+  module _ (a : s .dpc % 4 ≡ 0) (h : holds c (s .dpc) ≡ true) where
+    pub stop-23 : reading (fetched c code s) ≡ (23, none) → violation c d code s ≡ 23
+    unfolding violation illegal
+    stop-23 e = rw (eq-eqb (s .dpc % 4) 0 a, h, e)
+
+    module _ (i : Instruction) (e : reading (fetched c code s) ≡ (0, some i)) where
+      abbrev w : ℕ
+      w = fetched c code s
+
+      pub stop-24 : runs i ≡ false → violation c d code s ≡ 24
+      unfolding violation
+      stop-24 r = rw (eq-eqb (s .dpc % 4) 0 a, h, illegal-not w i e, foreign-runs w i e, r)
+
+      -- What is left are the tests of the effect
+      pub tests-left : runs i ≡ true → (x : Effect) → x ≡ meaning i (s .pc) (s .gpr) (s .spr) .0
+          → violation c d code s ≡ first ((askew x, 25) ∷ (outside d x, 26) ∷ (modeSet x, 27) ∷ []) 0
+      unfolding violation
+      tests-left r x q = rw (eq-eqb (s .dpc % 4) 0 a, h, illegal-not w i e, foreign-runs w i e, r, act-reads w i s e, q)
+
+      -- A step taken, from what its parts answer: effect x and next PC' n; what a load found and the data v, ws′; DPC and registers t, g, p
+      pub taken : (ws : List ℕ) (x : Effect) (n v t : ℕ) (ws′ g p : List ℕ)
+          → (x, n) ≡ meaning i (s .pc) (s .gpr) (s .spr) → v ≡ found d ws x → ws′ ≡ left d ws x
+          → (t, g, p) ≡ applied x v (s .pc) (s .gpr) (s .spr)
+          → (record { dpc = t; pc = n; gpr = g; spr = p }, ws′) ≡ next c d code (s, ws)
+      unfolding next moved
+      taken ws x n v t ws′ g p m l w′ a′ =
+          rw (← (m ∙ sym (act-reads w i s e)), ← l, ← w′, ← a′)
+
+-- The tests of an effect: what their number tells
+pub effect-number : (p q r : Bool) (n : ℕ) → n ≡ first ((p, 25) ∷ (q, 26) ∷ (r, 27) ∷ []) 0 → (n ≡ 0 → ⊥) → 24 < n
+effect-number true q r n e z = omega arith
+effect-number false true r n e z = omega arith
+effect-number false false true n e z = omega arith
+effect-number false false false n e z = absurd (z e)
+
+pub none-broken : (p q r : Bool) → _≡_ {A = ℕ} (first ((p, 25) ∷ (q, 26) ∷ (r, 27) ∷ []) 0) 0 → (p ≡ false) × (q ≡ false) × (r ≡ false)
+none-broken true q r e = absurd (omega arith)
+none-broken false true r e = absurd (omega arith)
+none-broken false false true e = absurd (omega arith)
+none-broken false false false e = (refl, refl, refl)
+
+-- A step that breaks no test: what each test says
+seven : (a b c d e f g : Bool) → _≡_ {A = ℕ} (first ((a, 21) ∷ (b, 22) ∷ (c, 23) ∷ (d, 24) ∷ (e, 25) ∷ (f, 26) ∷ (g, 27) ∷ []) 0) 0
+    → (a ≡ false) × (b ≡ false) × (c ≡ false) × (d ≡ false) × (e ≡ false) × (f ≡ false) × (g ≡ false)
+seven true b c d e f g z = absurd (omega arith)
+seven false true c d e f g z = absurd (omega arith)
+seven false false true d e f g z = absurd (omega arith)
+seven false false false true e f g z = absurd (omega arith)
+seven false false false false true f g z = absurd (omega arith)
+seven false false false false false true g z = absurd (omega arith)
+seven false false false false false false true z = absurd (omega arith)
+seven false false false false false false false z = (refl, refl, refl, refl, refl, refl, refl)
+
+pub record Passes (c d : Region) (code : List ℕ) (s : State) : Type 0 where
+  pub aligned : s .dpc % 4 ≡ 0
+  pub within : holds c (s .dpc) ≡ true
+  pub legal : illegal (fetched c code s) ≡ false
+  pub own : foreign (fetched c code s) ≡ false
+  pub even : askew (act (fetched c code s) s .0) ≡ false
+  pub inside : outside d (act (fetched c code s) s .0) ≡ false
+  pub calm : modeSet (act (fetched c code s) s .0) ≡ false
+
+pub passes : (c d : Region) (code : List ℕ) (s : State) → violation c d code s ≡ 0 → Passes c d code s
+unfolding violation
+passes c d code s z =
+    let w = fetched c code s in
+    let e = act w s .0 in
+    let p = seven (not (eqb (s .dpc % 4) 0)) (not (holds c (s .dpc))) (illegal w) (foreign w) (askew e) (outside d e) (modeSet e) z in
+    record
+    { aligned = eqb-true (s .dpc % 4) 0 (not-false (eqb (s .dpc % 4) 0) (p .0))
+    ; within = not-false (holds c (s .dpc)) (p .1)
+    ; legal = p .2
+    ; own = p .3
+    ; even = p .4
+    ; inside = p .5
+    ; calm = p .6 }

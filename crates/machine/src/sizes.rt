@@ -1,0 +1,32 @@
+// Loads and stores by their sizes.
+ghost use mathlib.Core.Path.{_≡_};
+ghost use mathlib.Core.Bool.{not};
+ghost use Prim.Native.Nat.{_%_};
+ghost use lib.Dec.{eqb};
+ghost use Rattle.machine.specs.Effects.{loadSize, storeSize};
+use words::LoadKind;
+use words::StoreKind;
+
+// Whether an address is no multiple of a load's size.
+pub fn load_askew(kind: LoadKind, ea: u32) -> bool
+    ensures { λ r. ⌜ r ≡ not (eqb (ea % loadSize kind) 0) ⌝ }
+{
+    match kind {
+        LoadKind::Lb => false,
+        LoadKind::Lh => ea % 2 != 0,
+        LoadKind::Lw => ea % 4 != 0,
+        LoadKind::Lbu => false,
+        LoadKind::Lhu => ea % 2 != 0,
+    }
+}
+
+// Whether an address is no multiple of a store's size.
+pub fn store_askew(kind: StoreKind, ea: u32) -> bool
+    ensures { λ r. ⌜ r ≡ not (eqb (ea % storeSize kind) 0) ⌝ }
+{
+    match kind {
+        StoreKind::Sb => false,
+        StoreKind::Sh => ea % 2 != 0,
+        StoreKind::Sw => ea % 4 != 0,
+    }
+}
