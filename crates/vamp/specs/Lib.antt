@@ -1,0 +1,3 @@
+pub mod Memory
+pub mod Events
+pub mod Steps
