@@ -21,7 +21,7 @@ use Rattle.words.specs.declared.StoreKind.the-variants.{Sb, Sh, Sw}
 use Rattle.machine.specs.declared.Effect.{Effect}
 use Rattle.machine.specs.declared.Effect.the-variants as does
 use Rattle.machine.specs.declared.Region.{Region}
-use Rattle.machine.specs.Effects.{State, act, moved, access, askew, modeSet}
+use Rattle.machine.specs.Effects.{State, act, moved, illegal, access, askew, modeSet}
 use Rattle.machine.specs.Record.{holds, wordAt, first}
 
 -- ---- What the assembler machine runs: lw, sw, movs2i, movi2s, add, sub, slli, srli, addi, lhgi, andi, ori, xori, sne, sgr, sge, beqz, bnez, jal, jr
@@ -104,10 +104,7 @@ runs (Store k rs1 imm rd) = runsStore k
 
 -- ---- The tests, of a word w and its effect e
 
--- 23: the word is illegal
-unfoldable pub illegal : ℕ → Bool
-illegal w = eqb (reading w .0) 23
-
+-- 23: the word is illegal is `illegal` of the word
 -- 24: the word is legal but not one the assembler machine runs
 unfoldable pub foreign : ℕ → Bool
 foreign w = elim (reading w .1) [ some i ↦ not (runs i) | none ↦ false ]

@@ -3,3 +3,6 @@ pub mod Special
 pub mod Holding
 pub mod Quiet
 pub mod Hand
+pub mod Regions
+pub mod Acts
+pub mod Bounds

@@ -172,7 +172,11 @@ storeSize Sb = 1
 storeSize Sh = 2
 storeSize Sw = 4
 
--- ---- Questions about an effect
+-- ---- Questions about a word and its effect
+
+-- The word is illegal
+unfoldable pub illegal : ℕ → Bool
+illegal w = eqb (reading w .0) 23
 
 -- Size and effective address of a load or store
 unfoldable pub access : Effect → Option (ℕ × ℕ)

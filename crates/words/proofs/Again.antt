@@ -157,6 +157,11 @@ all-own w (i ∷ is) = (twice i w, all-own w is)
 own-fields : (w : ℕ) → Own w (instructions w)
 own-fields w = all-own w (instructions w)
 
+-- What reading gives has the word's fields
+pub read-filled : (w : ℕ) (i : Instruction) → reading w ≡ (0, some i) → filled i w ≡ i
+unfolding reading
+read-filled w i e = found w (instructions w) i (own-fields w) e .1
+
 -- A legal word, read and made again, is that word with its unused fields zero
 pub again : (w : ℕ) (i : Instruction) → reading w ≡ (0, some i) → making i ≡ (0, some (cleared (form i) w))
 unfolding reading
