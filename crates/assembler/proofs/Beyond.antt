@@ -14,7 +14,7 @@ use Rattle.machine.specs.declared.Effect.the-variants as does
 use Rattle.machine.specs.declared.Region.{Region}
 use Rattle.machine.specs.Effects.{State, act, moved, access}
 use Rattle.machine.specs.Record.{holds, wordAt}
-use Rattle.machine.proofs.Holding.{placed}
+use Rattle.machine.proofs.Regions.{placed}
 use Rattle.assembler.specs.Checks.{fetched, violation, next, found, left, outside}
 use Rattle.assembler.specs.Runs.{running, told}
 use Rattle.assembler.proofs.Tests.{load-inside, store-inside, stop-21, stop-22, passes}

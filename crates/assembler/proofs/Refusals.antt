@@ -4,11 +4,11 @@ use mathlib.Core.Path.{_≡_, refl, sym, ap, _∙_}
 use mathlib.Core.Bool.{Bool, true, false, not, _||_}
 use mathlib.Core.List.{List, [], _∷_}
 use native.Mathlib.Omega.{arith}
-use borrow.Author.Tests.{eqb-true, ltb-false, eq-eqb, ne-eqb, not-false}
-use lib.Dec.{eqb, ltb}
+use borrow.Author.Tests.{eqb-true, not-false}
+use lib.Dec.{eqb}
 use Rattle.words.specs.Fields.{pick}
-use Rattle.words.proofs.Signed.{false-true}
 use Rattle.machine.specs.declared.Machine.{Machine}
+use Rattle.machine.proofs.Regions.{either-left, either-right, right-count}
 use Rattle.machine.specs.Record.{LONGEST, wrongCount, oddStart, pastMemory, overlap, notZero, overLimit, first}
 use Rattle.assembler.specs.Runs.{wrongLength, stepRefusal, runRefusal, taking}
 
@@ -53,23 +53,13 @@ run-passes m c w z = by (eqb (stepRefusal m c w) 0) refl (sym (run-refusal m c w
     by true e p = eqb-true (stepRefusal m c w) 0 e
     by false e p = p
 
--- Neither of two tests holds
-neither : (a b : Bool) → (a || b) ≡ false → (a ≡ false) × (b ≡ false)
-neither true b e = absurd (false-true (sym e))
-neither false b e = (refl, e)
-
 -- Both regions lie in their buffers
 pub rooms : (m : Machine) (c w : ℕ) → stepRefusal m c w ≡ 0 → (m .code .words ≤ c) × (m .«data» .words ≤ w)
-unfolding wrongCount
 rooms m c w z =
     let p = step-passes m c w z in
-    let l = neither (not (eqb c LONGEST)) (not (eqb w LONGEST)) (p .0) in
-    let q = neither (eqb (m .code .words) 0 || ltb LONGEST (m .code .words)) (ltb LONGEST (m .«data» .words)) (p .1) in
-    let r = neither (eqb (m .code .words) 0) (ltb LONGEST (m .code .words)) (q .0) in
-    let lc : c ≡ 1024 = eqb-true c LONGEST (not-false (eqb c LONGEST) (l .0)) in
-    let lw : w ≡ 1024 = eqb-true w LONGEST (not-false (eqb w LONGEST) (l .1)) in
-    let mc : m .code .words ≤ 1024 = ltb-false LONGEST (m .code .words) (r .1) in
-    let md : m .«data» .words ≤ 1024 = ltb-false LONGEST (m .«data» .words) (q .1) in
+    let lc : c ≡ 1024 = eqb-true c LONGEST (not-false (eqb c LONGEST) (either-left (not (eqb c LONGEST)) (not (eqb w LONGEST)) (p .0))) in
+    let lw : w ≡ 1024 = eqb-true w LONGEST (not-false (eqb w LONGEST) (either-right (not (eqb c LONGEST)) (not (eqb w LONGEST)) (p .0))) in
+    let r = right-count m (p .1) in
     (omega arith, omega arith)
 
 -- A refused call answers its number, and nothing changes

@@ -1,6 +1,5 @@
 pub mod Integers
 pub mod Special
-pub mod Holding
 pub mod Quiet
 pub mod Hand
 pub mod Regions

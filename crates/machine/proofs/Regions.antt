@@ -71,6 +71,10 @@ holds-yes r a e = (
 pub holds-in : (r : Region) (a : ℕ) → r .start ≤ a → a < r .start + 4 * r .words → holds r a ≡ true
 holds-in r a l h = rw (le-leb (r .start) a l, lt-ltb a (r .start + 4 * r .words) h)
 
+-- The place of an address in its region's list
+pub placed : (r : Region) (a : ℕ) → holds r a ≡ true → (a - r .start) / 4 < r .words
+placed r a e = let h = holds-yes r a e in omega arith
+
 -- Word i is at s + 4i
 pub word-at : (r : Region) (ws : List ℕ) (i : ℕ) → wordAt r ws (r .start + 4 * i) ≡ getD ws i 0
 unfolding wordAt

@@ -5,7 +5,7 @@ use Rattle.assembler.proofs.Tests.{load-inside, store-inside}
 use Rattle.assembler.proofs.checked.access.Statement.{statement}
 use Rattle.assembler.proofs.checked.access.Tie as tie
 use Rattle.assembler.specs.Checks.{found, left}
-use Rattle.machine.proofs.Holding.{held, placed}
+use Rattle.machine.proofs.Regions.{holds-yes, placed}
 use Rattle.machine.specs.Record.{wordAt}
 
 pub access-spec : {M : Type 1} → statement M
@@ -17,12 +17,12 @@ access-spec =
     (λ c. search needs)
     (λ c. search needs)
     (λ c. search needs)
-    (λ c. held (c .before .before .before .args .region) _ (load-inside (c .before .before .before .args .region) (c .before .before .before .args .effect) _ _ _ (c .before .effect .given .1) (c .before .before .before .pre .1)) .0)
+    (λ c. holds-yes (c .before .before .before .args .region) _ (load-inside (c .before .before .before .args .region) (c .before .before .before .args .effect) _ _ _ (c .before .effect .given .1) (c .before .before .before .pre .1)) .0)
     (λ c. search needs)
     (λ c. search needs)
     (λ c. let p = placed (c .before .before .before .before .args .region) _ (load-inside (c .before .before .before .before .args .region) (c .before .before .before .before .args .effect) _ _ _ (c .before .before .effect .given .1) (c .before .before .before .before .pre .1)) in omega arith)
     (λ c. search needs)
-    (λ c. held (c .before .before .before .args .region) _ (store-inside (c .before .before .before .args .region) (c .before .before .before .args .effect) _ _ _ (c .before .effect2 .given .1) (c .before .before .before .pre .1)) .0)
+    (λ c. holds-yes (c .before .before .before .args .region) _ (store-inside (c .before .before .before .args .region) (c .before .before .before .args .effect) _ _ _ (c .before .effect2 .given .1) (c .before .before .before .pre .1)) .0)
     (λ c. search needs)
     (λ c. search needs)
     (λ c. let p = placed (c .before .before .before .args .region) _ (store-inside (c .before .before .before .args .region) (c .before .before .before .args .effect) _ _ _ (c .before .effect2 .given .1) (c .before .before .before .pre .1)) in omega arith)

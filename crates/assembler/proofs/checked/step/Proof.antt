@@ -10,7 +10,7 @@ use Rattle.assembler.proofs.Tests.{stop-21, stop-22, stop-23, stop-24, 
 use Rattle.assembler.proofs.checked.step.Statement.{statement}
 use Rattle.assembler.proofs.checked.step.Tie as tie
 use Rattle.assembler.specs.Checks.{outside}
-use Rattle.machine.proofs.Holding.{held, placed}
+use Rattle.machine.proofs.Regions.{holds-yes, placed}
 use Rattle.machine.specs.Effects.{askew, modeSet}
 use Rattle.machine.specs.Record.{wordAt}
 use Rattle.machine.specs.declared.Effect.{Effect}
@@ -24,7 +24,7 @@ step-spec =
     (λ c. (stop-21 _ _ _ _ (c .if1 .taken), omega arith, refl, refl, refl, refl))
     (λ c κs. search needs)
     (λ c. (stop-22 _ _ _ _ (c .before .before .if1 .left) (sym (c .before .contains .ensures) ∙ not-true _ (c .if2 .taken)), omega arith, refl, refl, refl, refl))
-    (λ c. held _ _ (sym (c .before .contains .ensures) ∙ not-false _ (c .if2 .left)) .0)
+    (λ c. holds-yes _ _ (sym (c .before .contains .ensures) ∙ not-false _ (c .if2 .left)) .0)
     (λ c. search needs)
     (λ c. search needs)
     (λ c. let p : ((c .before .before .before .before .before .before .args .dpc - c .before .before .before .before .before .before .args .fetches .start) / 4 < c .before .before .before .before .before .before .args .fetches .words) = placed (c .before .before .before .before .before .before .args .fetches) _ (sym (c .before .before .contains .ensures) ∙ not-false _ (c .before .if2 .left)) in omega arith)
