@@ -54,7 +54,7 @@ module _ (c d : Region) (l : Laid c d) (code : List ℕ) where
         )
 
   -- The same with the VAMP's own state
-  same-state : (x y : State × List ℕ) → Same c d code x y → Same c d code x (x .0, y .1)
+  pub same-state : (x y : State × List ℕ) → Same c d code x y → Same c d code x (x .0, y .1)
   same-state x y r = record { state = refl; size = r .size; room = r .room; memory = r .memory; general = r .general; special = r .special }
 
   step-any : (x y : State × List ℕ) → Same c d code x y → violation c d code (x .0) ≡ 0 → (vstep y .0 ≡ stepped 0) × Same c d code (next c d code x) (vstep y .1)
@@ -93,14 +93,17 @@ module _ (c d : Region) (l : Laid c d) (code : List ℕ) where
     same-word e h = fetch-same c d l code (x .1) (y .1) (r .memory) (x .0 .dpc) e h
 
     pub raises-21 : violation c d code (x .0) ≡ 21 → vstep y .0 ≡ interrupt MISALIGNED
+    unfolding event
     raises-21 z = raised (interrupt MISALIGNED) (rw (ne-eqb (x .0 .dpc % 4) 0 (at-21 c d code (x .0) z)))
 
     pub raises-23 : violation c d code (x .0) ≡ 23 → vstep y .0 ≡ interrupt ILLEGAL
+    unfolding event
     raises-23 z =
         let t = at-23 c d code (x .0) z in
         raised (interrupt ILLEGAL) (rw (eq-eqb (x .0 .dpc % 4) 0 (t .0), lt-leb MEMORY (x .0 .dpc) (below (t .1)), same-word (t .0) (t .1), t .2))
 
     pub raises-25 : violation c d code (x .0) ≡ 25 → vstep y .0 ≡ interrupt MISALIGNED
+    unfolding event
     raises-25 z =
         let t = at-25 c d code (x .0) z in
         raised (interrupt MISALIGNED) (rw (eq-eqb (x .0 .dpc % 4) 0 (t .0), lt-leb MEMORY (x .0 .dpc) (below (t .1)), same-word (t .0) (t .1), t .2, t .3))

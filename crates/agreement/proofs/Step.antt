@@ -112,6 +112,7 @@ found-small does.Nothing mem b = omega arith
 no-event : (mem : List ℕ) (s : State) (w : ℕ) (e : Effect) → ship.fetched mem s ≡ w → act w s .0 ≡ e
     → s .dpc % 4 ≡ 0 → s .dpc < MEMORY → illegal w ≡ false → askew e ≡ false → accessPast e ≡ false → Calm e → modeSet e ≡ false
     → event mem s ≡ stepped 0
+unfolding event
 no-event mem s w e f a p q r t u v x = rw (eq-eqb (s .dpc % 4) 0 p, lt-leb MEMORY (s .dpc) q, f, a, r, t, u, v .0, v .1, x)
 
 -- A step without an event is taken

@@ -47,13 +47,13 @@ module _ (m : Machine) (l : Laid (m .code) (m .«data»)) (code : List ℕ) (x y
       }
 
 module _ (card : List ℕ) (b : Bytes card) (ok : refusal card LONGEST LONGEST DOUBLE-WORDS ≡ 0) where
-  abbrev m : Machine
+  abbrev pub m : Machine
   m = recordOf card
 
-  passed : Passes m
+  pub passed : Passes m
   passed = accepted card LONGEST LONGEST DOUBLE-WORDS ok .passes
 
-  laid : Laid (m .code) (m .«data»)
+  pub laid : Laid (m .code) (m .«data»)
   laid =
       record {
         code-in = in-memory m (passed .within) .0;
@@ -76,38 +76,48 @@ module _ (card : List ℕ) (b : Bytes card) (ok : refusal card LONGEST LONGEST D
         special = register-below card b 164;
       }
 
-  abbrev Ok : ℕ → Type 0
+  abbrev pub Ok : ℕ → Type 0
   Ok n = Fine (m .code) (m .«data») (codeBuffer card) n (stateOf m, dataBuffer card)
 
-  same : (n : ℕ) → Ok n → (j : ℕ) → j ≤ n → Same (m .code) (m .«data») (codeBuffer card) (drawing card j) (ship card j)
+  pub same : (n : ℕ) → Ok n → (j : ℕ) → j ≤ n → Same (m .code) (m .«data») (codeBuffer card) (drawing card j) (ship card j)
   same n f j h = all-same (m .code) (m .«data») laid (codeBuffer card) n (stateOf m, dataBuffer card) (stateOf m, memoryBuffer card) start f j h
 
-  together : (n : ℕ) → Ok n → Together card n
+  pub together : (n : ℕ) → Ok n → Together card n
   together n f =
       record {
         steps = all-steps (m .code) (m .«data») laid (codeBuffer card) n (stateOf m, dataBuffer card) (stateOf m, memoryBuffer card) start f;
         agree = λ j h. agrees m laid (codeBuffer card) (drawing card j) (ship card j) (same n f j h);
       }
 
-  stopped : (n v k x w : ℕ) → 0 < v → checker card n ≡ (v, k ∷ x ∷ w ∷ []) → (k < n) × Ok k × (violation (m .code) (m .«data») (codeBuffer card) (drawing card k .0) ≡ v)
+  pub stopped : (n v k x w : ℕ) → 0 < v → checker card n ≡ (v, k ∷ x ∷ w ∷ []) → (k < n) × Ok k × (violation (m .code) (m .«data») (codeBuffer card) (drawing card k .0) ≡ v)
   unfolding after
   stopped n v k x w z e = violation-only (m .code) (m .«data») (codeBuffer card) n v k x w (stateOf m, dataBuffer card) z e
 
-  fine : (n : ℕ) → checker card n ≡ (0, n ∷ []) → Ok n
+  pub fine : (n : ℕ) → checker card n ≡ (0, n ∷ []) → Ok n
   unfolding after
   fine n e = accepted-only (m .code) (m .«data») (codeBuffer card) n n (stateOf m, dataBuffer card) e .0
+
+  -- The event of step k where the checker stops there
+  abbrev Number : ℕ → ℕ → Type 0
+  Number k v = violation (m .code) (m .«data») (codeBuffer card) (drawing card k .0) ≡ v
+
+  pub event-21 : (k : ℕ) → Ok k → Number k 21 → vamp.vstep (ship card k) .0 ≡ interrupt MISALIGNED
+  event-21 k f z = raises-21 (m .code) (m .«data») laid (codeBuffer card) (drawing card k) (ship card k) (same k f k (omega arith)) z
+
+  pub event-23 : (k : ℕ) → Ok k → Number k 23 → vamp.vstep (ship card k) .0 ≡ interrupt ILLEGAL
+  event-23 k f z = raises-23 (m .code) (m .«data») laid (codeBuffer card) (drawing card k) (ship card k) (same k f k (omega arith)) z
+
+  pub event-25 : (k : ℕ) → Ok k → Number k 25 → vamp.vstep (ship card k) .0 ≡ interrupt MISALIGNED
+  event-25 k f z = raises-25 (m .code) (m .«data») laid (codeBuffer card) (drawing card k) (ship card k) (same k f k (omega arith)) z
 
   pub stands : (n : ℕ) → Stands card n
   stands n =
       record {
         accepted = λ e. together n (fine n e);
         stops = λ v k x w z e. together k (stopped n v k x w z e .1);
-        misaligned-fetch = λ k x w e. let s = stopped n 21 k x w (omega arith) e in
-            raises-21 (m .code) (m .«data») laid (codeBuffer card) (drawing card k) (ship card k) (same k (s .1) k (omega arith)) (s .2);
-        illegal-word = λ k x w e. let s = stopped n 23 k x w (omega arith) e in
-            raises-23 (m .code) (m .«data») laid (codeBuffer card) (drawing card k) (ship card k) (same k (s .1) k (omega arith)) (s .2);
-        misaligned-access = λ k x w e. let s = stopped n 25 k x w (omega arith) e in
-            raises-25 (m .code) (m .«data») laid (codeBuffer card) (drawing card k) (ship card k) (same k (s .1) k (omega arith)) (s .2);
+        misaligned-fetch = λ k x w e. let s = stopped n 21 k x w (omega arith) e in event-21 k (s .1) (s .2);
+        illegal-word = λ k x w e. let s = stopped n 23 k x w (omega arith) e in event-23 k (s .1) (s .2);
+        misaligned-access = λ k x w e. let s = stopped n 25 k x w (omega arith) e in event-25 k (s .1) (s .2);
       }
 
 pub demand-3 : Demand-3
