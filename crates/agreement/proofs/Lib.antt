@@ -5,3 +5,4 @@ pub mod Simulation
 pub mod Theorem
 pub mod Onwards
 pub mod Results
+pub mod Inhabited

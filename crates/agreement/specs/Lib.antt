@@ -1,2 +1,3 @@
 pub mod Demand
 pub mod Calls
+pub mod Examples
