@@ -133,7 +133,7 @@ module _ (c d : Region) (code code′ : List ℕ) (f : Agree c code code′) whe
     where
       by : (v : ℕ) → violation c d code s ≡ v
           → ((s : State) (ws ws′ : List ℕ) → Agree d ws ws′ → d .words ≤ length ws → d .words ≤ length ws′
-            → Alike d (running c d code (suc k) n (s, ws)) (running c d code′ (suc k) n (s, ws′)))
+          → Alike d (running c d code (suc k) n (s, ws)) (running c d code′ (suc k) n (s, ws′)))
           → Alike d (running c d code k (suc n) (s, ws)) (running c d code′ k (suc n) (s, ws′))
       by zero e rest =
           let e′ : violation c d code′ s ≡ 0 = sym (same-violation c d code code′ f s) ∙ e in

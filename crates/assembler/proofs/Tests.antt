@@ -118,11 +118,12 @@ passes c d code s z =
     let w = fetched c code s in
     let e = act w s .0 in
     let p = seven (not (eqb (s .dpc % 4) 0)) (not (holds c (s .dpc))) (illegal w) (foreign w) (askew e) (outside d e) (modeSet e) z in
-    record
-    { aligned = eqb-true (s .dpc % 4) 0 (not-false (eqb (s .dpc % 4) 0) (p .0))
-    ; within = not-false (holds c (s .dpc)) (p .1)
-    ; legal = p .2
-    ; own = p .3
-    ; even = p .4
-    ; inside = p .5
-    ; calm = p .6 }
+    record {
+      aligned = eqb-true (s .dpc % 4) 0 (not-false (eqb (s .dpc % 4) 0) (p .0));
+      within = not-false (holds c (s .dpc)) (p .1);
+      legal = p .2;
+      own = p .3;
+      even = p .4;
+      inside = p .5;
+      calm = p .6;
+    }
