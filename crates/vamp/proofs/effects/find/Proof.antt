@@ -4,7 +4,8 @@ use mathlib.Core.Path.{sym, ap, _∙_}
 use Rattle.vamp.proofs.Tests.{went, stopped, inside, took-yes, took-not}
 use Rattle.vamp.proofs.effects.find.Statement.{statement}
 use Rattle.vamp.proofs.effects.find.Tie as tie
-use Rattle.vamp.specs.Steps.{answered, accessEvent}
+use Rattle.vamp.specs.Steps.{answered}
+use Rattle.vamp.specs.Inner.{accessEvent}
 
 pub find-spec : {M : Type 1} → statement M
 find-spec =

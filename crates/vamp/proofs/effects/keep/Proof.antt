@@ -1,10 +1,10 @@
+use Rattle.vamp.specs.Inner.{accessEvent}
 use borrow.Author.Needs.{needs}
 use mathlib.Core.Bool.{Bool}
 use mathlib.Core.Path.{sym, ap, _∙_}
 use Rattle.vamp.proofs.Tests.{went, stopped, inside, took-yes, took-not}
 use Rattle.vamp.proofs.effects.keep.Statement.{statement}
 use Rattle.vamp.proofs.effects.keep.Tie as tie
-use Rattle.vamp.specs.Steps.{accessEvent}
 
 pub keep-spec : {M : Type 1} → statement M
 keep-spec =

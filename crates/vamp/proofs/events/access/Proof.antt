@@ -1,7 +1,7 @@
+use Rattle.vamp.specs.Inner.{accessEvent}
 use borrow.Author.Tests.{le-leb, lt-leb}
 use Rattle.vamp.proofs.events.access.Statement.{statement}
 use Rattle.vamp.proofs.events.access.Tie as tie
-use Rattle.vamp.specs.Steps.{accessEvent}
 
 pub access-spec : {M : Type 1} → statement M
 unfolding accessEvent
