@@ -89,14 +89,14 @@ module _ (mem : List ℕ) (s : State) where
       let t = peel (askew effect) (interrupt MISALIGNED) _ (λ q. omega arith) (r .1) in
       let u = peel (accessPast effect) past _ (λ q. omega arith) (t .1) in
       let v = peel (trapped effect) (interrupt TRAP) _ (λ q. omega arith) (u .1) in
-      record
-      { fetch-even = p .0
-      ; fetch-within = q .0
-      ; legal = r .0
-      ; even = t .0
-      ; within = u .0
-      ; untrapped = v .0
-      ; calm = still effect (overflowed effect) (overflowMasked (s .spr)) refl (v .1)
+      record {
+        fetch-even = p .0;
+        fetch-within = q .0;
+        legal = r .0;
+        even = t .0;
+        within = u .0;
+        untrapped = v .0;
+        calm = still effect (overflowed effect) (overflowMasked (s .spr)) refl (v .1);
       }
 
 -- ---- The answers that there are
