@@ -1,4 +1,5 @@
 mod Calls
+pub mod Kept
 pub mod Memory
 pub mod Onward
 pub mod Order
@@ -7,3 +8,5 @@ pub mod Sequence
 mod Shifts
 mod Tests
 mod Touches
+pub mod Unique
+pub mod Zeros
