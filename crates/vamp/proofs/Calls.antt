@@ -13,6 +13,12 @@ use Rattle.vamp.specs.Memory.{DOUBLE-WORDS}
 use Rattle.vamp.specs.Steps.{Vamp, Course, vstep, onward, start, refused, stepping, running}
 use Rattle.vamp.proofs.Onward.{onward-yes, onward-not, step-kept}
 
+-- What holds of the refusals and of the work holds of the call
+pub either : {A : Type 0} (P : A → Type 0) (t u : Bool) (a b c : A) → P a → P b → P c → P (pick t a (pick u b c))
+either P true u a b c p q r = p
+either P false true a b c p q r = q
+either P false false a b c p q r = r
+
 -- A sequence of one step has the answer of the step, and leaves what it leaves
 pub once : (x : Vamp) → (onward 1 (start x) .answer ≡ vstep x .0) × (onward 1 (start x) .left ≡ vstep x .1)
 unfolding onward

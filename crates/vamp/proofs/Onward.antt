@@ -7,7 +7,8 @@ use borrow.Author.Tests.{eq-eqb, ne-eqb}
 use lib.Dec.{eqb}
 use Rattle.words.specs.Fields.{pick}
 use Rattle.vamp.specs.Events.{fetched, event}
-use Rattle.vamp.specs.Steps.{Vamp, Course, course, carried, vstep, onward, further, stopped, reported}
+use Rattle.vamp.specs.Steps.{Vamp, Course, carried, vstep, onward, further, stopped, reported}
+use Rattle.vamp.specs.Inner.{course}
 use Rattle.vamp.proofs.Tests.{took-yes, took-not}
 
 -- The one whose next step is taken

@@ -8,7 +8,8 @@ use lib.Dec.{eqb, leb}
 use Rattle.words.specs.Fields.{pick}
 use Rattle.machine.specs.Record.{MEMORY}
 use Rattle.vamp.specs.Events.{odd, beyond}
-use Rattle.vamp.specs.Steps.{accessEvent, took}
+use Rattle.vamp.specs.Steps.{took}
+use Rattle.vamp.specs.Inner.{accessEvent}
 
 -- An access that is a multiple of its size
 pub even : (size a : ℕ) → odd size a ≡ false → a % size ≡ 0

@@ -11,8 +11,9 @@ use Rattle.machine.specs.declared.Effect.the-variants as does
 use Rattle.machine.specs.Effects.{access, askew, modeSet, loadSize, storeSize, MODE}
 use Rattle.machine.specs.Record.{first}
 use Rattle.vamp.specs.Memory.{loaded, stored}
-use Rattle.vamp.specs.Events.{effectEvent, odd, accessPast, trapped, overflowed, overflowMasked, stepped, interrupt, mode, TRAP, OVERFLOW}
-use Rattle.vamp.specs.Steps.{found, kept, took, touched, accessEvent}
+use Rattle.vamp.specs.Events.{odd, accessPast, trapped, overflowed, overflowMasked, stepped, interrupt, mode, TRAP, OVERFLOW}
+use Rattle.vamp.specs.Steps.{found, kept, took}
+use Rattle.vamp.specs.Inner.{effectEvent, accessEvent, touched}
 
 -- Whatever the answer
 took-same : {A : Type 0} (n : ℕ) (x : A) → took n x x ≡ x

@@ -57,9 +57,9 @@ beyond a = leb MEMORY a
 unfoldable pub illegal : ℕ → Bool
 illegal w = eqb (reading w .0) 23
 
--- A load or store with ea not a multiple of its size (1, 2, 4) is `askew` of the effect
+-- (A load or store with ea not a multiple of its size is `askew` of the effect)
 
--- A load or store past modelled memory. (One that is a multiple of its size lies in memory wholly or not at all)
+-- A load or store past modelled memory; one that is a multiple of its size lies in memory wholly or not at all
 unfoldable pub accessPast : Effect → Bool
 accessPast e = elim (access e) [ some p ↦ beyond (p .1) | none ↦ false ]
 
@@ -89,49 +89,40 @@ overflowed does.Nothing = false
 unfoldable pub overflowMasked : List ℕ → Bool
 overflowMasked p = eqb (register p SR / 2 ^ 6 % 2) 0
 
--- movi2s to MODE of a value other than 0 is `modeSet` of the effect
+-- (movi2s to MODE of a value other than 0 is `modeSet` of the effect)
 
 -- ---- The order
 
--- The word at DPC
-abbrev pub fetched : List ℕ → State → ℕ
-fetched mem s = at 32 mem (s .dpc)
-
--- The tests with their answers, in the document's order. Events 4 to 8 are questions about the effect e of the word, with the special registers p
-abbrev pub effectEvents : Effect → List ℕ → List (Bool × (ℕ × ℕ))
-effectEvents e p =
-    -- 4. Load or store with ea not a multiple of its size: bit 2
+-- The tests with their answers, in the document's order, of DPC, the word w there, its effect e and the special registers p
+abbrev pub table : ℕ → ℕ → Effect → List ℕ → List (Bool × (ℕ × ℕ))
+table dpc w e p =
+    -- 1. DPC not a multiple of 4: bit 2, nothing is fetched
+    (odd 4 dpc, interrupt MISALIGNED) ∷
+    -- 2. Fetch past modelled memory: answer 32
+    (beyond dpc, past) ∷
+    -- 3. Illegal word: bit 1
+    (illegal w, interrupt ILLEGAL) ∷
+    -- 4. Load or store with ea not a multiple of its size (1, 2, 4): bit 2
     (askew e, interrupt MISALIGNED) ∷
     -- 5. Load or store past modelled memory: answer 32
     (accessPast e, past) ∷
     -- 6. trap: bit 5
     (trapped e, interrupt TRAP) ∷
-    -- 7. Overflow: bit 6. If SR bit 6 is 0 the event is masked: the step is taken and CA is reported
+    -- 7. Overflow: bit 6. If SR bit 6 is 0 the event is masked: the step is taken, CA is reported
     (overflowed e && overflowMasked p, stepped OVERFLOW) ∷
     (overflowed e, interrupt OVERFLOW) ∷
     -- 8. movi2s to MODE of a value other than 0: answer 33
     (modeSet e, mode) ∷ []
 
-abbrev pub wordEvents : ℕ → State → List (Bool × (ℕ × ℕ))
-wordEvents w s =
-    -- 3. Illegal word: bit 1
-    (illegal w, interrupt ILLEGAL) ∷
-    effectEvents (act w s .0) (s .spr)
+-- The word at DPC
+abbrev pub fetched : List ℕ → State → ℕ
+fetched mem s = at 32 mem (s .dpc)
 
 abbrev pub events : List ℕ → State → List (Bool × (ℕ × ℕ))
 events mem s =
-    -- 1. DPC not a multiple of 4: bit 2, nothing is fetched
-    (odd 4 (s .dpc), interrupt MISALIGNED) ∷
-    -- 2. Fetch past modelled memory: answer 32
-    (beyond (s .dpc), past) ∷
-    wordEvents (fetched mem s) s
+    let w = fetched mem s in
+    table (s .dpc) w (act w s .0) (s .spr)
 
--- The answer with its cause word: that of the first event; 0 and an empty one where there is none
-unfoldable pub effectEvent : Effect → List ℕ → ℕ × ℕ
-effectEvent e p = first (effectEvents e p) (stepped 0)
-
-unfoldable pub wordEvent : ℕ → State → ℕ × ℕ
-wordEvent w s = first (wordEvents w s) (stepped 0)
-
+-- The answer of a step with its cause word: that of the first event, and 0 with an empty one where there is none
 unfoldable pub event : List ℕ → State → ℕ × ℕ
 event mem s = first (events mem s) (stepped 0)

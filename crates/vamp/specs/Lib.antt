@@ -1,3 +1,4 @@
 pub mod Memory
 pub mod Events
 pub mod Steps
+pub mod Inner

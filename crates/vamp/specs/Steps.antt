@@ -11,7 +11,7 @@ use Rattle.machine.specs.declared.Effect.the-variants as does
 use Rattle.machine.specs.Effects.{State, act, moved}
 use Rattle.machine.specs.Record.{first, notZero, stateOf, withState}
 use Rattle.vamp.specs.Memory.{DOUBLE-WORDS, loaded, stored}
-use Rattle.vamp.specs.Events.{beyond, fetched, event, effectEvent, stepped, interrupt, past, mode, ILLEGAL, MISALIGNED, TRAP, OVERFLOW}
+use Rattle.vamp.specs.Events.{fetched, event, stepped, interrupt, past, mode, ILLEGAL, MISALIGNED, TRAP, OVERFLOW}
 use Rattle.vamp.specs.declared.Answer.{Answer}
 use Rattle.vamp.specs.declared.Answer.the-variants as says
 
@@ -68,8 +68,8 @@ unfoldable pub after : ℕ → Vamp → Vamp
 after zero x = x
 after (suc n) x = after n (vstep x .1)
 
--- A sequence: the steps taken; answer and cause word of the last step, which is the one before that it stopped, where there is one (0 and 0 before any step);
--- how many of the steps taken reported a cause; what they leave
+-- A sequence: how many steps were taken; answer and cause word of the last step, which is the one that was not taken, where there is one (0 and 0 before
+-- any step); how many of those taken reported a cause; what they leave
 pub record Course : Type 0 where
   pub steps : ℕ
   pub answer : ℕ × ℕ
@@ -97,24 +97,6 @@ onward zero c = c
 onward (suc n) c =
     let r = vstep (c .left) in
     elim (eqb (r .0 .0) 0) [ true ↦ onward n (further c r) | false ↦ stopped c r ]
-
--- ---- The machine by its parts, as the code has it
-
-abbrev pub parts : ℕ → ℕ → List ℕ → List ℕ → List ℕ → Vamp
-parts dpc pc g p mem = (record { dpc = dpc; pc = pc; gpr = g; spr = p }, mem)
-
-abbrev pub course : ℕ → ℕ × ℕ → ℕ → Vamp → Course
-course n a m x = record { steps = n; answer = a; masked = m; left = x }
-
--- Events 4 and 5 of an access at a, askew or not
-unfoldable pub accessEvent : Bool → ℕ → ℕ × ℕ
-accessEvent t a = first ((t, interrupt MISALIGNED) ∷ (beyond a, past) ∷ []) (stepped 0)
-
--- The events of an effect, what its load finds, and memory after it
-abbrev pub touched : Effect → List ℕ → List ℕ → (ℕ × ℕ) × ℕ × List ℕ
-touched e p mem =
-    let a = effectEvent e p in
-    (a, took (a .0) (found e mem) 0, took (a .0) (kept e mem) mem)
 
 -- ---- What the public calls answer
 

@@ -6,7 +6,8 @@ ghost use lib.Dec.{eqb};
 ghost use Rattle.machine.specs.Effects.{MODE};
 ghost use Rattle.machine.specs.Record.{first};
 ghost use Rattle.vamp.specs.Events.{overflowMasked, stepped, interrupt, mode, OVERFLOW};
-ghost use Rattle.vamp.specs.Steps.{answered, accessEvent};
+ghost use Rattle.vamp.specs.Steps.{answered};
+ghost use Rattle.vamp.specs.Inner.{accessEvent};
 use crate::Answer;
 use machine::Machine;
 

@@ -7,7 +7,8 @@ use native.Mathlib.Omega.{arith}
 use Rattle.vamp.proofs.Onward.{goes-on, stops, ends, reported-most}
 use Rattle.vamp.proofs.course.go.Statement.{statement}
 use Rattle.vamp.proofs.course.go.Tie as tie
-use Rattle.vamp.specs.Steps.{answered, onward, start, parts, course}
+use Rattle.vamp.specs.Steps.{answered, onward, start}
+use Rattle.vamp.specs.Inner.{parts, course}
 
 abbrev Inv-loop : tie.InvT-loop
 Inv-loop dpc pc gpr₀ spr₀ memory₀ limit at₀ next₀ steps₀ last₀ masked₀ gpr spr memory at next steps last masked =
