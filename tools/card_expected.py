@@ -7,7 +7,6 @@ With a folder as its argument it also writes each card there that is lent right 
 cases are those of crates/card_test/src; docs/TESTS.md lists them.
 """
 import os
-import re
 import struct
 import sys
 
@@ -126,13 +125,17 @@ def record_digest(f):
     return digest(numbers)
 
 
-def line(name, text, lengths=(1024, 1024, 2048)):
-    lengths = dict(zip(("code", "data", "memory"), lengths))
-    answer, f, arrays = load(text, lengths)
-    print(f"{name}: {answer} record {record_digest(f):08x} code {digest(arrays['code']):08x} "
-          f"data {digest(arrays['data']):08x} memory {digest(halves(arrays['memory'])):08x}")
-    if len(sys.argv) > 1 and lengths == BUFFERS:
-        with open(os.path.join(sys.argv[1], re.sub(r"\W+", "-", name) + ".card"), "wb") as out:
+def line(at, number, text, lengths=(1024, 1024, 2048)):
+    """A line: what was put where, the load, its answer and its digests."""
+    assert len(text) < at + 4 or struct.unpack_from("<I", text, at)[0] == number
+    named = dict(zip(("code", "data", "memory"), lengths))
+    answer, f, arrays = load(text, named)
+    print(f"{number:08x} at {at}, {len(text)} bytes into {lengths[0]} {lengths[1]} {lengths[2]}: {answer} "
+          f"record {record_digest(f):08x} code {digest(arrays['code']):08x} data {digest(arrays['data']):08x} "
+          f"memory {digest(halves(arrays['memory'])):08x}")
+    if len(sys.argv) > 1 and named == BUFFERS:
+        line.count = getattr(line, "count", 0) + 1
+        with open(os.path.join(sys.argv[1], f"{line.count:02}-{answer.replace(' ', '-')}.card"), "wb") as out:
             out.write(text)
 
 
@@ -142,8 +145,8 @@ def entries(name, numbers, digits):
             print(f"  {name} {i} is {n:0{digits}x}")
 
 
-def page(name, text):
-    line(name, text)
+def page(text):
+    """All that a load leaves."""
     _, f, arrays = load(text, BUFFERS)
     print(f"  code start {f['code'][0]:08x} words {f['code'][1]:08x} data start {f['data'][0]:08x} "
           f"words {f['data'][1]:08x} limit {f['limit']:08x} dpc {f['dpc']:08x} pc {f['pc']:08x}")
@@ -154,98 +157,125 @@ def page(name, text):
     entries("memory", arrays["memory"][:2048], 16)
 
 
-# ---- The cases
+# ---- The cases. Each says in the document's words what the program puts at an offset; the assertion in line holds both together
 
-def one_fault():
-    line("code buffer of 1023", card(), (1023, 1024, 2048))
-    line("code buffer of 1025", card(), (1025, 1024, 2048))
-    line("data buffer of 1023", card(), (1024, 1023, 2048))
-    line("data buffer of 1025", card(), (1024, 1025, 2048))
-    line("memory of 2047", card(), (1024, 1024, 2047))
-    line("memory of 2049", card(), (1024, 1024, 2049))
-    line("no buffers, no card", b"", (0, 0, 0))
-    line("no bytes", b"")
-    line("291 bytes", card()[:291])
-    line("mark TND", card(mark=b"TND"))
-    line("mark SnD", card(mark=b"SnD"))
-    line("mark SNd", card(mark=b"SNd"))
-    line("version 0", card(version=0))
-    line("version 2", card(version=2))
-    line("version 257", card(version=257))
-    line("byte 5 is 1", card(zeros=b"\1\0\0"))
-    line("byte 6 is 1", card(zeros=b"\0\1\0"))
-    line("byte 7 is 1", card(zeros=b"\0\0\1"))
-    line("C is 0", card(code=(0, 0)))
-    line("C is 1025", card(code=(0, 1025)))
-    line("C is FFFFFFFF", card(code=(0, 0xFFFFFFFF)))
-    line("C is 40000003", card(code=(0, 0x40000003)))
-    line("D is 1025", card(data=(256, 1025)))
-    line("D is 40000004", card(data=(256, 0x40000004)))
-    line("292 bytes", card()[:292])
-    line("319 bytes", card()[:319])
-    line("321 bytes", card() + b"\0")
-    line("C is 4", card(code=(0, 4)))
-    line("D is 3", card(data=(256, 3)))
-    line("code start 2", card(code=(2, 3)))
-    line("data start 257", card(data=(257, 4)))
-    line("code up to 16388", card(code=(16376, 3)))
-    line("data up to 16388", card(data=(16372, 4)))
-    line("code from FFFFFFFC", card(code=(0xFFFFFFFC, 3)))
-    line("data from FFFFFFF0", card(data=(0xFFFFFFF0, 4)))
-    line("data from 0 as code", card(data=(0, 4)))
-    line("data from the last code word", card(data=(8, 4)))
-    line("code from the last data word", card(code=(268, 3)))
-    line("code within data", card(code=(260, 3)))
-    line("R0 is 1", card(general={0: 1}))
-    line("special register 12 is 1", card(special={12: 1}))
-    line("special register 15 is 1", card(special={15: 1}))
-    line("MODE is 1", card(special={SPECIALS["MODE"]: 1}))
-    line("special register 17 is 1", card(special={17: 1}))
-    line("special register 31 is 80000000", card(special={31: 0x80000000}))
-    line("limit 1000001", card(limit=1000001))
-    line("limit FFFFFFFF", card(limit=0xFFFFFFFF))
+FRONT = 0x01444E53  # SND and version 1, the number at offset 0
 
 
-def mended():
-    faults = {"mark": b"TND", "version": 2, "zeros": b"\1\1\1", "code": (16382, 1025), "data": (16380, 4),
-              "general": {0: 1}, "limit": 1000001}
-    line("all twelve", card(**faults)[:291], (1023, 1024, 2048))
-    line("1 mended", card(**faults)[:291])
-    line("1 to 2 mended", card(**faults) + b"\0")
-    faults["mark"] = b"SND"
-    line("1 to 3 mended", card(**faults) + b"\0")
-    faults["version"] = 1
-    line("1 to 4 mended", card(**faults) + b"\0")
-    faults["zeros"] = b"\0\0\0"
-    line("1 to 5 mended", card(**faults) + b"\0")
-    faults["code"] = (16382, 3)
-    line("1 to 6 mended", card(**faults) + b"\0")
-    line("1 to 7 mended", card(**faults))
-    faults["code"] = (16380, 3)
-    line("1 to 8 mended", card(**faults))
-    faults["code"], faults["data"] = (256, 3), (264, 4)
-    line("1 to 9 mended", card(**faults))
-    faults["data"] = (268, 4)
-    line("1 to 10 mended", card(**faults))
-    del faults["general"]
-    line("1 to 11 mended", card(**faults))
-    faults["limit"] = 1000000
-    line("all mended", card(**faults))
+def lent():
+    for lengths in ((1023, 1024, 2048), (1025, 1024, 2048), (1024, 1023, 2048), (1024, 1025, 2048), (1024, 1024, 2047),
+                    (1024, 1024, 2049), (0, 0, 0)):
+        line(0, FRONT, card(), lengths)
 
 
-def taken():
-    page("whole case", card())
-    odd = {"dpc": 0xFFFFFFFF, "pc": 0x80000001, "limit": 0}
-    page("across double words, counters anywhere", card(code=(4, 3), data=(20, 4), **odd))
-    page("data, then code, up to the end of memory", card(code=(16372, 3), data=(16356, 4), **odd))
-    program = [0x2401FFFC, 0x8C220008, 0]
-    page("no data, its start in the code", card(code=(16372, 3), data=(16376, 0), words=program, **odd))
-    line("no data, its start past memory", card(code=(16372, 3), data=(16384, 0), words=program, **odd))
-    line("no data, its start further", card(code=(16372, 3), data=(16388, 0), words=program, **odd))
-    counted = struct.unpack("<2048I", bytes(i % 251 for i in range(292, 292 + 4 * 2048)))
-    line("largest", card(code=(0, 1024), data=(12288, 1024), words=counted))
+def header():
+    line(0, FRONT, b"")
+    line(0, FRONT, card()[:291])
+    line(0, 0x01444E54, card(mark=b"TND"))
+    line(0, 0x01446E53, card(mark=b"SnD"))
+    line(0, 0x01644E53, card(mark=b"SNd"))
+    line(0, 0x00444E53, card(version=0))
+    line(0, 0x02444E53, card(version=2))
+    line(4, 0x00000001, card(version=257))
+    line(4, 0x00000100, card(zeros=b"\1\0\0"))
+    line(4, 0x00010000, card(zeros=b"\0\1\0"))
+    line(4, 0x01000000, card(zeros=b"\0\0\1"))
 
 
-one_fault()
-mended()
-taken()
+def counts():
+    for c in (0, 1025, 0x40000003, 0xFFFFFFFF):
+        line(12, c, card(code=(0, c)))
+    for d in (1025, 0x40000004):
+        line(20, d, card(data=(256, d)))
+    line(0, FRONT, card()[:292])
+    line(0, FRONT, card()[:319])
+    line(0, FRONT, card() + b"\0")
+    line(12, 4, card(code=(0, 4)))
+    line(20, 3, card(data=(256, 3)))
+
+
+def regions():
+    line(8, 2, card(code=(2, 3)))
+    line(16, 257, card(data=(257, 4)))
+    line(8, 16376, card(code=(16376, 3)))
+    line(16, 16372, card(data=(16372, 4)))
+    line(8, 0xFFFFFFFC, card(code=(0xFFFFFFFC, 3)))
+    line(16, 0xFFFFFFF0, card(data=(0xFFFFFFF0, 4)))
+    line(16, 0, card(data=(0, 4)))
+    line(16, 8, card(data=(8, 4)))
+    line(8, 268, card(code=(268, 3)))
+    line(8, 260, card(code=(260, 3)))
+
+
+def registers():
+    line(36, 1, card(general={0: 1}))
+    line(212, 1, card(special={12: 1}))
+    line(224, 1, card(special={15: 1}))
+    line(228, 1, card(special={SPECIALS["MODE"]: 1}))
+    line(232, 1, card(special={17: 1}))
+    line(288, 0x80000000, card(special={31: 0x80000000}))
+    line(32, 1000001, card(limit=1000001))
+    line(32, 0xFFFFFFFF, card(limit=0xFFFFFFFF))
+
+
+def faults():
+    """The faults from the last to the first, each beside those before."""
+    f = {}
+
+    def after(at, number, tail=b"", **more):
+        f.update(more)
+        line(at, number, card(**f) + tail)
+
+    after(32, 1000001, limit=1000001)
+    after(36, 1, general={0: 1})
+    after(8, 16372, code=(16372, 3))
+    after(16, 16368, data=(16368, 4))
+    after(16, 16372, data=(16372, 4))
+    after(8, 16374, code=(16374, 3))
+    after(300, 0, b"\0")
+    after(12, 1025, b"\0", code=(16374, 1025))
+    after(4, 0x01000000, b"\0", zeros=b"\0\0\1")
+    after(0, 0x02444E53, b"\0", version=2)
+    after(0, 0x02444E54, b"\0", mark=b"TND")
+    line(300, 0, card(**f)[:291])
+    line(300, 0, card(**f)[:291], (1023, 1024, 2048))
+
+
+def borders():
+    f = {}
+
+    def after(at, number, shown=False, **more):
+        f.update(more)
+        line(at, number, card(**f))
+        if shown:
+            page(card(**f))
+
+    after(300, 0, shown=True)
+    after(8, 4, code=(4, 3))
+    after(24, 0xFFFFFFFF, dpc=0xFFFFFFFF)
+    after(28, 0x80000001, pc=0x80000001)
+    after(32, 0, limit=0)
+    after(16, 20, shown=True, data=(20, 4))
+    after(16, 16, data=(16, 4))
+    after(8, 16372, code=(16372, 3))
+    after(16, 16356, shown=True, data=(16356, 4))
+    after(32, 1000000, limit=1000000)
+    after(20, 0, data=(16356, 0), words=[0x2401FFFC, 0x8C220008, 0])
+    after(16, 16376, shown=True, data=(16376, 0))
+    after(16, 16384, data=(16384, 0))
+    after(16, 16388, data=(16388, 0))
+
+
+def largest():
+    words = struct.unpack("<2048I", bytes(i % 251 for i in range(292, 292 + 4 * 2048)))
+    line(16, 12288, card(code=(0, 1024), data=(12288, 1024), words=words))
+
+
+lent()
+header()
+counts()
+regions()
+registers()
+faults()
+borders()
+largest()

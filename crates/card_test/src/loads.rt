@@ -6,6 +6,7 @@ use crate::output::digest_doubles;
 use crate::output::mix;
 use crate::output::write;
 use crate::output::write_doubles;
+use crate::output::write_hex;
 use crate::output::write_number;
 use crate::output::write_word;
 use crate::output::write_words;
@@ -19,37 +20,51 @@ const USED: u32 = 0xA5A5A5A5;
 const USED_DOUBLE: u64 = 0x5A5A5A5AA5A5A5A5;
 
 // The lengths of the lent buffers.
-struct Lengths {
-    code: usize,
-    words: usize,
-    memory: usize,
+pub struct Lengths {
+    pub code: usize,
+    pub words: usize,
+    pub memory: usize,
 }
 
-// Loads the first n bytes into buffers of the right lengths.
-pub fn line(name: &[u8], card: &[u8; 8500], n: usize)
-    requires { ⌜ n ≤ 8500 ⌝ }
+// The right ones.
+pub fn right() -> Lengths
+    ensures { λ r. ⌜ (r .code ≤ 1025) × (r .words ≤ 1025) × (r .memory ≤ 2049) ⌝ }
 {
-    line_lent(name, card, n, 1024, 1024, 2048);
+    Lengths {
+        code: 1024,
+        words: 1024,
+        memory: 2048,
+    }
 }
 
-// Loads the first n bytes into buffers of some lengths.
-pub fn line_lent(name: &[u8], card: &[u8; 8500], n: usize, code: usize, words: usize, memory: usize)
-    requires { ⌜ n ≤ 8500 ⌝ ∗ ⌜ code ≤ 1025 ⌝ ∗ ⌜ words ≤ 1025 ⌝ ∗ ⌜ memory ≤ 2049 ⌝ }
+// What was put where, and what the load of the first n bytes gives: the answer, and digests of the record and of the arrays
+// that the buffers are lent from.
+pub fn line(at: usize, number: u32, card: &[u8; 8500], n: usize, lengths: Lengths)
+    requires { ⌜ n ≤ 8500 ⌝ ∗ ⌜ lengths .code ≤ 1025 ⌝ ∗ ⌜ lengths .words ≤ 1025 ⌝ ∗ ⌜ lengths .memory ≤ 2049 ⌝ }
 {
-    let lengths = Lengths {
-        code,
-        words,
-        memory,
-    };
-    let mut codes = [USED; 1025];
-    let mut datas = [USED; 1025];
-    let mut doubles = [USED_DOUBLE; 2049];
-    write_line(name, card, n, lengths, &mut codes, &mut datas, &mut doubles);
+    let mut code = [USED; 1025];
+    let mut words = [USED; 1025];
+    let mut memory = [USED_DOUBLE; 2049];
+    write_case(at, number, n, lengths);
+    write_load(card, n, lengths, &mut code, &mut words, &mut memory);
 }
 
-// The answer, and digests of the record and of the arrays that the buffers are lent from.
-fn write_line(
-    name: &[u8],
+fn write_case(at: usize, number: u32, n: usize, lengths: Lengths) {
+    write_hex(number as u64, 8);
+    write(b" at ");
+    write_number(at as u64);
+    write(b", ");
+    write_number(n as u64);
+    write(b" bytes into ");
+    write_number(lengths.code as u64);
+    write(b" ");
+    write_number(lengths.words as u64);
+    write(b" ");
+    write_number(lengths.memory as u64);
+    write(b": ");
+}
+
+fn write_load(
     card: &[u8],
     n: usize,
     lengths: Lengths,
@@ -70,8 +85,6 @@ fn write_line(
     );
     let answer = loaded.answer;
     let machine = loaded.machine;
-    write(name);
-    write(b": ");
     write_answer(answer);
     write_word(b"record", record_digest(machine));
     write_word(b"code", digest(code));
@@ -103,11 +116,10 @@ fn record_digest(machine: Machine) -> u32 {
     mix(mix(numbers, digest(&gpr)), digest(&spr))
 }
 
-// The same line, and then the whole record and every word that is not 0.
-pub fn page(name: &[u8], card: &[u8; 8500], n: usize)
+// The whole record and every word that is not 0 after a load of the first n bytes.
+pub fn page(card: &[u8; 8500], n: usize)
     requires { ⌜ n ≤ 8500 ⌝ }
 {
-    line(name, card, n);
     let mut code = [USED; 1024];
     let mut words = [USED; 1024];
     let mut memory = [USED_DOUBLE; 2048];

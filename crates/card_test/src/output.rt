@@ -10,17 +10,17 @@ pub fn write_number(n: u64) {
     io::print_decimal(STDOUT_FILENO, n);
 }
 
-// A blank, a name, a blank, and a number in hex digits.
-pub fn write_hex(name: &[u8], n: u64, digits: usize) {
-    write(b" ");
-    write(name);
-    write(b" ");
+// In hex digits.
+pub fn write_hex(n: u64, digits: usize) {
     io::print_hex(STDOUT_FILENO, n, digits);
 }
 
-// A name and a word.
+// A name and a word, a blank before each.
 pub fn write_word(name: &[u8], word: u32) {
-    write_hex(name, word as u64, 8);
+    write(b" ");
+    write(name);
+    write(b" ");
+    write_hex(word as u64, 8);
 }
 
 // A line for each word that is not 0, with its place.
@@ -49,7 +49,8 @@ fn write_entry(name: &[u8], i: usize, n: u64, digits: usize) {
     write(name);
     write(b" ");
     write_number(i as u64);
-    write_hex(b"is", n, digits);
+    write(b" is ");
+    write_hex(n, digits);
     write(b"\n");
 }
 
