@@ -120,9 +120,12 @@ def halves(doubles):
     return [half for double in doubles for half in (double % 2**32, double // 2**32)]
 
 
+def numbers(f):
+    return [*f["code"], *f["data"], f["limit"], f["dpc"], f["pc"]]
+
+
 def record_digest(f):
-    numbers = [*f["code"], *f["data"], f["limit"], f["dpc"], f["pc"], digest(f["general"]), digest(f["special"])]
-    return digest(numbers)
+    return digest([*numbers(f), digest(f["general"]), digest(f["special"])])
 
 
 def line(at, number, text, lengths=(1024, 1024, 2048)):
@@ -148,8 +151,7 @@ def entries(name, numbers, digits):
 def page(text):
     """All that a load leaves."""
     _, f, arrays = load(text, BUFFERS)
-    print(f"  code start {f['code'][0]:08x} words {f['code'][1]:08x} data start {f['data'][0]:08x} "
-          f"words {f['data'][1]:08x} limit {f['limit']:08x} dpc {f['dpc']:08x} pc {f['pc']:08x}")
+    entries("number", numbers(f), 8)
     entries("general", f["general"], 8)
     entries("special", f["special"], 8)
     entries("code", arrays["code"][:1024], 8)

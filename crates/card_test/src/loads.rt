@@ -104,16 +104,25 @@ fn write_answer(answer: Answer) {
 }
 
 fn record_digest(machine: Machine) -> u32 {
-    let code = machine.code;
-    let data = machine.data;
     let gpr = machine.gpr;
     let spr = machine.spr;
-    let regions = mix(
-        mix(mix(mix(1, code.start), code.words), data.start),
+    let numbers = numbers_of(machine);
+    mix(mix(digest(&numbers), digest(&gpr)), digest(&spr))
+}
+
+// The numbers of a record that are no registers.
+fn numbers_of(machine: Machine) -> [u32; 7] {
+    let code = machine.code;
+    let data = machine.data;
+    [
+        code.start,
+        code.words,
+        data.start,
         data.words,
-    );
-    let numbers = mix(mix(mix(regions, machine.limit), machine.dpc), machine.pc);
-    mix(mix(numbers, digest(&gpr)), digest(&spr))
+        machine.limit,
+        machine.dpc,
+        machine.pc,
+    ]
 }
 
 // The whole record and every word that is not 0 after a load of the first n bytes.
@@ -138,19 +147,10 @@ fn write_page(card: &[u8], n: usize, code: &mut [u32], words: &mut [u32], memory
 }
 
 fn write_record(machine: Machine) {
-    let code = machine.code;
-    let data = machine.data;
     let gpr = machine.gpr;
     let spr = machine.spr;
-    write(b" ");
-    write_word(b"code start", code.start);
-    write_word(b"words", code.words);
-    write_word(b"data start", data.start);
-    write_word(b"words", data.words);
-    write_word(b"limit", machine.limit);
-    write_word(b"dpc", machine.dpc);
-    write_word(b"pc", machine.pc);
-    write(b"\n");
+    let numbers = numbers_of(machine);
+    write_words(b"number", &numbers);
     write_registers(b"general", &gpr);
     write_registers(b"special", &spr);
 }
