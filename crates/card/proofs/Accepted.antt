@@ -66,9 +66,9 @@ module _ (card : List ℕ) (code words memory : ℕ) where
       }
 
   -- The other way round
-  pub refused-not : Accepted card code words memory → refusal card code words memory ≡ 0
+  pub not-refused : Accepted card code words memory → refusal card code words memory ≡ 0
   unfolding refusal
-  refused-not a =
+  not-refused a =
       rw (a .lengths, a .long, a .mark, a .version, a .reserved, a .passes .counts, a .size, a .passes .starts, a .passes .within, a .passes .apart, a .passes .zero, a .passes .limit)
 
 -- The lengths that the work relies on

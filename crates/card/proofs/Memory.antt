@@ -8,6 +8,7 @@ use borrow.Author.Tests.{lt-ltb, le-ltb, eqb-true, eqb-false, ltb-true, ltb-fals
 use lib.Dec.{eqb, ltb}
 use lib.ListN.{length, getD}
 use Rattle.words.specs.Fields.{pick}
+use Rattle.machine.specs.declared.Machine.{Machine}
 use Rattle.machine.specs.Record.{LONGEST, MEMORY, image}
 use Rattle.machine.proofs.Regions.{image-below}
 use Rattle.card.specs.Card.{Bytes, BODY, DOUBLES, tab, number32, numbers, recordOf, padded, codeBuffer, dataBuffer, double, memoryBuffer}
@@ -65,6 +66,18 @@ module _ (card : List ℕ) (i : ℕ) (l : i < LONGEST) where
 
 -- ---- Every loaded word is below 2^32
 
+-- The numbers of a record are words, and it has 32 registers of each kind
+pub record Words (m : Machine) : Type 0 where
+  pub code-start : m .code .start < 2 ^ 32
+  pub data-start : m .«data» .start < 2 ^ 32
+  pub limit : m .limit < 2 ^ 32
+  pub dpc : m .dpc < 2 ^ 32
+  pub pc : m .pc < 2 ^ 32
+  pub gpr : (i : ℕ) → getD (m .gpr) i 0 < 2 ^ 32
+  pub spr : (i : ℕ) → getD (m .spr) i 0 < 2 ^ 32
+  pub gpr-length : length (m .gpr) ≡ 32
+  pub spr-length : length (m .spr) ≡ 32
+
 module _ (card : List ℕ) (b : Bytes card) where
   pub number-below : (o : ℕ) → number32 card o < 2 ^ 32
   unfolding number32
@@ -86,8 +99,23 @@ module _ (card : List ℕ) (b : Bytes card) where
   unfolding dataBuffer
   data-below = tab-below _ LONGEST (2 ^ 32) (omega arith) (padded-below (BODY + 4 * recordOf card .code .words) (recordOf card .«data» .words))
 
-  pub register-below : (o i : ℕ) → getD (numbers card o 32) i 0 < 2 ^ 32
-  register-below o = tab-below (λ i. number32 card (o + 4 * i)) 32 (2 ^ 32) (omega arith) (λ i. number-below (o + 4 * i))
+  numbers-below : (o i : ℕ) → getD (numbers card o 32) i 0 < 2 ^ 32
+  numbers-below o = tab-below (λ i. number32 card (o + 4 * i)) 32 (2 ^ 32) (omega arith) (λ i. number-below (o + 4 * i))
+
+  pub record-words : Words (recordOf card)
+  unfolding recordOf
+  record-words =
+      record {
+        code-start = number-below 8;
+        data-start = number-below 16;
+        limit = number-below 32;
+        dpc = number-below 24;
+        pc = number-below 28;
+        gpr = numbers-below 36;
+        spr = numbers-below 164;
+        gpr-length = tab-length _ 32;
+        spr-length = tab-length _ 32;
+      }
 
   pub image-small : (a : ℕ) → imageOf card a < 2 ^ 32
   image-small a = image-below (recordOf card .code) (recordOf card .«data») (codeBuffer card) (dataBuffer card) a (2 ^ 32) (omega arith) code-below data-below

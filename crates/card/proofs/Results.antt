@@ -1,5 +1,5 @@
 -- What a caller of the loader may rely on, from its promise alone.
-use Prim.Native.Nat.{ℕ}
+use Prim.Native.Nat.{ℕ, _%_, _<_}
 use mathlib.Core.Path.{_≡_, refl, sym, ap, subst, _∙_}
 use mathlib.Core.Bool.{Bool, true, false}
 use mathlib.Core.List.{List}
@@ -8,13 +8,13 @@ use lib.Dec.{eqb}
 use lib.ListN.{length}
 use Rattle.words.proofs.Signed.{false-true}
 use Rattle.machine.specs.declared.Machine.{Machine}
-use Rattle.machine.specs.Record.{LONGEST, zeros}
+use Rattle.machine.specs.Record.{LONGEST, MEMORY, zeros, image}
 use Rattle.card.specs.declared.Answer.{Answer}
 use Rattle.card.specs.declared.Answer.the-variants as is
 use Rattle.card.specs.declared.Loaded.{Loaded}
-use Rattle.card.specs.Card.{DOUBLES, refusal, answerOf, loaded, loading}
+use Rattle.card.specs.Card.{Bytes, DOUBLES, refusal, answerOf, loaded, loading}
 use Rattle.card.proofs.Accepted.{Passes, accepted}
-use Rattle.card.proofs.Memory.{code-length, data-length, memory-length}
+use Rattle.card.proofs.Memory.{code-length, data-length, memory-length, memoryAt, memory-word}
 
 -- The promise of `load`, of a result and the buffers that it leaves
 abbrev pub Meets : List ℕ → List ℕ → List ℕ → List ℕ → Loaded → List ℕ → List ℕ → List ℕ → Type 0
@@ -84,3 +84,9 @@ module _ (card code ws memory : List ℕ) where
           ap (λ (t : Given). length (t .3)) e ∙ data-length card,
           ap (λ (t : Given). length (t .4)) e ∙ memory-length card,
         )
+
+    -- VAMP memory holds what the regions say, word by word
+    pub loaded-memory : Bytes card → r .answer ≡ is.Loaded → (a : ℕ) → a % 4 ≡ 0 → a < MEMORY → memoryAt memory' a ≡ image (r .machine .code) (r .machine .«data») code' ws' a
+    loaded-memory b a i al lt =
+        let e = p ∙ loading-accepted (loaded-accepted a) in
+        ap (λ (t : Given). memoryAt (t .4) i) e ∙ memory-word card b i al lt ∙ sym (ap (λ (t : Given). image (t .1 .code) (t .1 .«data») (t .2) (t .3) i) e)

@@ -13,6 +13,9 @@ use machine::Machine;
 use machine::Region;
 use machine::refusals::contains;
 
+// What the upper word of a double word is worth: 2^32.
+const UPPER: u64 = 4294967296;
+
 // Fills the three buffers, and hands the record out.
 pub fn work(card: &[u8], code: &mut [u32], words: &mut [u32], memory: &mut [u64]) -> Machine
     requires { ⌜ Room (now card) (now code) (now words) (now memory) ⌝ }
@@ -70,7 +73,7 @@ fn double_of(c: Region, d: Region, code: &[u32], words: &[u32], i: usize) -> u64
     let address = 8 * (i as u32);
     let low = word_at(c, d, code, words, address);
     let high = word_at(c, d, code, words, address + 4);
-    low as u64 + 4294967296 * (high as u64)
+    low as u64 + UPPER * (high as u64)
 }
 
 // The word at an address.

@@ -17,7 +17,7 @@ use machine::refusals::past_memory;
 use machine::refusals::wrong_count;
 
 // The lengths of the lent buffers.
-const WORDS: usize = 1024;
+const WORDS: usize = Machine::LONGEST as usize;
 
 const DOUBLES: usize = 2048;
 

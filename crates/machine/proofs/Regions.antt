@@ -133,6 +133,13 @@ module _ (m : Machine) where
             in-data = holds-in (m .«data») (m .«data» .start) (omega arith) (let n : m .«data» .words ≡ 0 → ⊥ = has-data in omega arith);
           }
 
+  pub disjoint-apart : wrongCount m ≡ false → Disjoint (m .code) (m .«data») → overlap m ≡ false
+  disjoint-apart w d = by (overlap m) refl
+    where
+      by : (t : Bool) → overlap m ≡ t → t ≡ false
+      by true e = let s = overlaps-shared w e in absurd (d (s .address) (s .in-code) (s .in-data))
+      by false e = refl
+
 -- ---- The image of both
 
 module _ (c d : Region) (code ws : List ℕ) (a : ℕ) where
