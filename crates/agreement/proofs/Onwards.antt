@@ -4,7 +4,8 @@ use mathlib.Core.Path.{_≡_, refl, sym, ap, _∙_}
 use native.Mathlib.Nat.{add-zero}
 use native.Mathlib.Omega.{arith}
 use Rattle.vamp.specs.Events.{stepped}
-use Rattle.vamp.specs.Steps.{Vamp, vstep, after, Course, course, further, stopped, onward, reported}
+use Rattle.vamp.specs.Steps.{Vamp, vstep, after, Course, further, stopped, onward, reported}
+use Rattle.vamp.specs.Inner.{course}
 use Rattle.vamp.proofs.Onward.{onward-yes, onward-not}
 
 -- The first n steps have answer 0 and no cause

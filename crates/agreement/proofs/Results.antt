@@ -18,7 +18,8 @@ use Rattle.assembler.specs.Runs.{runs, taking, runRefusal}
 use Rattle.assembler.proofs.Theorems.{accepted-only, violation-only, accepts, stops-at}
 use Rattle.vamp.specs.Memory.{DOUBLE-WORDS}
 use Rattle.vamp.specs.Events.{stepped, interrupt, MISALIGNED, ILLEGAL}
-use Rattle.vamp.specs.Steps.{running, vstep, onward, course, Course, start}
+use Rattle.vamp.specs.Steps.{running, vstep, onward, Course, start}
+use Rattle.vamp.specs.Inner.{course}
 use Rattle.card.specs.Card.{Bytes, refusal, recordOf, codeBuffer, dataBuffer, memoryBuffer}
 use Rattle.card.proofs.Memory.{code-length, data-length, memory-length}
 use Rattle.agreement.specs.Demand.{drawing, ship, Agree, Together, checker, Stands}

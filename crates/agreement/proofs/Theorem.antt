@@ -17,7 +17,7 @@ use Rattle.vamp.specs.Events.{stepped, interrupt, MISALIGNED, ILLEGAL}
 use Rattle.vamp.specs.Steps as vamp
 use Rattle.card.specs.Card.{Bytes, refusal, recordOf, codeBuffer, dataBuffer, memoryBuffer}
 use Rattle.card.proofs.Accepted.{Passes, accepted}
-use Rattle.card.proofs.Memory.{data-length, memory-length, memory-word, register-below}
+use Rattle.card.proofs.Memory.{data-length, memory-length, memory-word, record-words}
 use Rattle.agreement.specs.Demand.{drawing, ship, Agree, Together, checker, Stands, Demand-3}
 use Rattle.agreement.proofs.Relation.{Laid, Image, Same}
 use Rattle.agreement.proofs.Simulation.{all-steps, all-same, raises-21, raises-23, raises-25}
@@ -65,15 +65,15 @@ module _ (card : List ℕ) (b : Bytes card) (ok : refusal card LONGEST LONGEST D
 
   -- What one load of the card gives is the same for both
   start : Same (m .code) (m .«data») (codeBuffer card) (stateOf m, dataBuffer card) (stateOf m, memoryBuffer card)
-  unfolding part recordOf
+  unfolding part
   start =
       record {
         state = refl;
         size = memory-length card;
         room = let e = data-length card in let h = right-count m (passed .counts) .2 in omega arith;
         memory = λ a e h. memory-word card b a e h;
-        general = register-below card b 36;
-        special = register-below card b 164;
+        general = record-words card b .gpr;
+        special = record-words card b .spr;
       }
 
   abbrev pub Ok : ℕ → Type 0

@@ -9,9 +9,9 @@ use Rattle.words.specs.Fields.{pick}
 use Rattle.words.proofs.Signed.{false-true}
 use Rattle.machine.specs.declared.Effect.{Effect}
 use Rattle.machine.specs.declared.Effect.the-variants as does
-use Rattle.machine.specs.Effects.{State, act, one-of, askew, modeSet}
+use Rattle.machine.specs.Effects.{illegal, State, act, one-of, askew, modeSet}
 use Rattle.machine.specs.Record.{first}
-use Rattle.vamp.specs.Events.{odd, beyond, illegal, accessPast, trapped, overflowed, overflowMasked, fetched, events, event, stepped, interrupt, past, mode, ILLEGAL, MISALIGNED, TRAP, OVERFLOW}
+use Rattle.vamp.specs.Events.{odd, beyond, accessPast, trapped, overflowed, overflowMasked, fetched, events, event, stepped, interrupt, past, mode, ILLEGAL, MISALIGNED, TRAP, OVERFLOW}
 
 module _ (mem : List ℕ) (s : State) where
   abbrev word : ℕ

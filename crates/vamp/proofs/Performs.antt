@@ -12,7 +12,8 @@ use Rattle.words.specs.declared.Instruction.{Instruction}
 use Rattle.machine.specs.declared.Effect.{Effect}
 use Rattle.machine.specs.Effects.{State, act, meaning, applied, moved}
 use Rattle.machine.specs.Record.{MEMORY}
-use Rattle.vamp.specs.Events.{illegal, fetched, event, interrupt, past, ILLEGAL, MISALIGNED}
+use Rattle.machine.specs.Effects.{illegal}
+use Rattle.vamp.specs.Events.{fetched, event, interrupt, past, ILLEGAL, MISALIGNED}
 use Rattle.vamp.specs.Steps.{Vamp, found, kept, took, taken, carried, vstep}
 use Rattle.vamp.specs.Inner.{parts, wordEvent, effectEvent, touched}
 use Rattle.vamp.proofs.Tests.{took-yes, took-not}

@@ -5,10 +5,9 @@ use mathlib.Core.List.{List, [], _∷_}
 use mathlib.Core.Option.{Option, none, some}
 use lib.Dec.{eqb, leb}
 use lib.IntN.{ℤ}
-use Rattle.words.specs.Words.{reading}
 use Rattle.machine.specs.declared.Effect.{Effect}
 use Rattle.machine.specs.declared.Effect.the-variants as does
-use Rattle.machine.specs.Effects.{State, act, register, access, askew, modeSet, SR}
+use Rattle.machine.specs.Effects.{State, act, register, illegal, access, askew, modeSet, SR}
 use Rattle.machine.specs.Record.{MEMORY, first}
 use Rattle.vamp.specs.Memory.{at}
 
@@ -53,10 +52,7 @@ odd size a = not (eqb (a % size) 0)
 abbrev pub beyond : ℕ → Bool
 beyond a = leb MEMORY a
 
--- An illegal word
-unfoldable pub illegal : ℕ → Bool
-illegal w = eqb (reading w .0) 23
-
+-- An illegal word is `illegal` of the word
 -- (A load or store with ea not a multiple of its size is `askew` of the effect)
 
 -- A load or store past modelled memory; one that is a multiple of its size lies in memory wholly or not at all
