@@ -5,7 +5,6 @@ use crate::lines::lent_step;
 use crate::lines::numbered_line;
 use crate::lines::run_line;
 use crate::lines::word_line;
-use crate::memory::lay;
 use crate::output::put;
 use crate::records::at;
 use crate::records::record;
@@ -28,38 +27,36 @@ pub(crate) fn all() {
 }
 
 fn lengths(zero: Machine, set: Machine) {
-    let mut memory = [0u64; 2049];
-    lay(&mut memory, 0, &[GO]);
-    let before = memory;
+    let mut none = [0u64; 1];
+    let empty = [0u64; 1];
     lent(
         b"memory of 0 double words",
         zero,
-        &before[..0],
-        &mut memory[..0],
+        &empty[..0],
+        &mut none[..0],
     );
     lent(
         b"memory of 0 double words, R0 set",
         set,
-        &before[..0],
-        &mut memory[..0],
+        &empty[..0],
+        &mut none[..0],
     );
-    lent(
-        b"memory of 2047 double words",
-        zero,
-        &before[..2047],
-        &mut memory[..2047],
-    );
+    let short = [GO as u64; 2047];
+    let mut memory = short;
+    lent(b"memory of 2047 double words", zero, &short, &mut memory);
     lent(
         b"memory of 2047 double words, R0 set",
         set,
-        &before[..2047],
-        &mut memory[..2047],
+        &short,
+        &mut memory,
     );
-    lent(b"memory of 2049 double words", zero, &before, &mut memory);
+    let long = [GO as u64; 2049];
+    let mut memory = long;
+    lent(b"memory of 2049 double words", zero, &long, &mut memory);
     lent(
         b"memory of 2049 double words, R0 set",
         set,
-        &before,
+        &long,
         &mut memory,
     );
 }

@@ -1,54 +1,44 @@
+use Prim.Native.Nat.{_-_}
+use borrow.Author.Needs.{needs}
+use lib.ListN.{length}
 use Rattle.vamp_test.proofs.lines.put_memory.Statement.{statement}
 use Rattle.vamp_test.proofs.lines.put_memory.Tie as tie
-use Rattle.vamp_test.proofs.lines.put_memory.Reads as reads
-use Rattle.vamp_test.proofs.lines.put_memory.Lts as lts
-use Rattle.vamp_test.proofs.lines.put_double_word.Reads as put-double-word-reads
 
 abbrev Inv-loop : tie.InvT-loop
-Inv-loop before after n₀ n = ?
+Inv-loop before after n₀ n = Unit {0}
 
 abbrev μ-loop : tie.MeasureT-loop
-μ-loop before after n₀ n = ?
+μ-loop before after n₀ n = length before - n
 
--- src/lines.rt:148:5
 loop-holds : tie.Need-loop-holds Inv-loop μ-loop
-loop-holds c = ?
+loop-holds c = search needs
 
--- src/lines.rt:150:32
 mul-put-double-word : tie.Need-mul-put-double-word Inv-loop μ-loop
-mul-put-double-word c = ?
+mul-put-double-word c = search needs
 
--- src/lines.rt:150:32
 shared-slice-read-put-double-word : tie.Need-shared-slice-read-put-double-word Inv-loop μ-loop
-shared-slice-read-put-double-word c = ?
+shared-slice-read-put-double-word c = search needs
 
--- src/lines.rt:150:43
 mul-put-double-word-2 : tie.Need-mul-put-double-word-2 Inv-loop μ-loop
-mul-put-double-word-2 c = ?
+mul-put-double-word-2 c = search needs
 
--- src/lines.rt:150:43
 shared-slice-read-put-double-word-2 : tie.Need-shared-slice-read-put-double-word-2 Inv-loop μ-loop
-shared-slice-read-put-double-word-2 c = ?
+shared-slice-read-put-double-word-2 c = search needs
 
--- src/lines.rt:150:13
 put-double-word-requires : tie.Need-put-double-word-requires Inv-loop μ-loop
-put-double-word-requires c κs = ?
+put-double-word-requires c κs = search needs
 
--- src/lines.rt:152:9
 add-n : tie.Need-add-n Inv-loop μ-loop
-add-n c = ?
+add-n c = search needs
 
--- src/lines.rt:148:5
 loop-less : tie.Need-loop-less Inv-loop μ-loop
-loop-less c = ?
+loop-less c = search needs
 
--- src/lines.rt:148:5
 loop-again : tie.Need-loop-again Inv-loop μ-loop
-loop-again c = ?
+loop-again c = search needs
 
--- src/lines.rt:146:1
 returns : tie.Need-returns Inv-loop μ-loop
-returns c = ?
+returns c = search needs
 
 pub put-memory-spec : {M : Type 1} → statement M
 put-memory-spec =

@@ -1,54 +1,43 @@
+use Prim.Native.Nat.{_-_}
+use borrow.Author.Needs.{needs}
 use Rattle.vamp_test.proofs.lines.put_registers.Statement.{statement}
 use Rattle.vamp_test.proofs.lines.put_registers.Tie as tie
-use Rattle.vamp_test.proofs.lines.put_registers.Reads as reads
-use Rattle.vamp_test.proofs.lines.put_registers.Lts as lts
-use Rattle.vamp_test.proofs.lines.put_register.Reads as put-register-reads
 
 abbrev Inv-loop : tie.InvT-loop
-Inv-loop name before after n₀ n = ?
+Inv-loop name before after n₀ n = Unit {0}
 
 abbrev μ-loop : tie.MeasureT-loop
-μ-loop name before after n₀ n = ?
+μ-loop name before after n₀ n = 32 - n
 
--- src/lines.rt:131:5
 loop-holds : tie.Need-loop-holds Inv-loop μ-loop
-loop-holds c = ?
+loop-holds c = search needs
 
--- src/lines.rt:132:31
 mul-put-register : tie.Need-mul-put-register Inv-loop μ-loop
-mul-put-register c = ?
+mul-put-register c = search needs
 
--- src/lines.rt:132:31
 array-read-put-register : tie.Need-array-read-put-register Inv-loop μ-loop
-array-read-put-register c = ?
+array-read-put-register c = search needs
 
--- src/lines.rt:132:42
 mul-put-register-2 : tie.Need-mul-put-register-2 Inv-loop μ-loop
-mul-put-register-2 c = ?
+mul-put-register-2 c = search needs
 
--- src/lines.rt:132:42
 array-read-put-register-2 : tie.Need-array-read-put-register-2 Inv-loop μ-loop
-array-read-put-register-2 c = ?
+array-read-put-register-2 c = search needs
 
--- src/lines.rt:132:9
 put-register-requires : tie.Need-put-register-requires Inv-loop μ-loop
-put-register-requires c κs = ?
+put-register-requires c κs = search needs
 
--- src/lines.rt:133:9
 add-n : tie.Need-add-n Inv-loop μ-loop
-add-n c = ?
+add-n c = search needs
 
--- src/lines.rt:131:5
 loop-less : tie.Need-loop-less Inv-loop μ-loop
-loop-less c = ?
+loop-less c = search needs
 
--- src/lines.rt:131:5
 loop-again : tie.Need-loop-again Inv-loop μ-loop
-loop-again c = ?
+loop-again c = search needs
 
--- src/lines.rt:129:1
 returns : tie.Need-returns Inv-loop μ-loop
-returns c = ?
+returns c = search needs
 
 pub put-registers-spec : {M : Type 1} → statement M
 put-registers-spec =

@@ -1,55 +1,45 @@
+use Prim.Native.Nat.{_-_, _≤_}
+use borrow.Author.Needs.{needs}
+use lib.ListN.{length}
+use mathlib.Core.Path.{_≡_}
 use Rattle.vamp_test.proofs.memory.lay.Statement.{statement}
 use Rattle.vamp_test.proofs.memory.lay.Tie as tie
-use Rattle.vamp_test.proofs.memory.lay.Reads as reads
-use Rattle.vamp_test.proofs.memory.lay.Lts as lts
-use Rattle.std.proofs.num.wrapping_add_u32.Reads as wrapping-add-u32-reads
-use Rattle.vamp_test.proofs.memory.place.Reads as place-reads
 
 abbrev Inv-loop : tie.InvT-loop
-Inv-loop memory₀ start words address₀ n₀ memory address n = ?
+Inv-loop memory₀ start words address₀ n₀ memory address n = (n ≤ length words) × (length memory ≡ length memory₀)
 
 abbrev μ-loop : tie.MeasureT-loop
-μ-loop memory₀ start words address₀ n₀ memory address n = ?
+μ-loop memory₀ start words address₀ n₀ memory address n = length words - n
 
--- src/memory.rt:19:5
 loop-holds : tie.Need-loop-holds Inv-loop μ-loop
-loop-holds c = ?
+loop-holds c = search needs
 
--- src/memory.rt:20:32
 mul-place : tie.Need-mul-place Inv-loop μ-loop
-mul-place c = ?
+mul-place c = search needs
 
--- src/memory.rt:20:32
 shared-slice-read-place : tie.Need-shared-slice-read-place Inv-loop μ-loop
-shared-slice-read-place c = ?
+shared-slice-read-place c = search needs
 
--- src/memory.rt:20:9
 place-requires : tie.Need-place-requires Inv-loop μ-loop
-place-requires c κs = ?
+place-requires c κs = search needs
 
--- src/memory.rt:21:9
 wrapping-add-u32-requires : tie.Need-wrapping-add-u32-requires Inv-loop μ-loop
-wrapping-add-u32-requires c κs = ?
+wrapping-add-u32-requires c κs = search needs
 
--- src/memory.rt:22:9
 add-n : tie.Need-add-n Inv-loop μ-loop
-add-n c = ?
+add-n c = search needs
 
--- src/memory.rt:19:5
 loop-less : tie.Need-loop-less Inv-loop μ-loop
-loop-less c = ?
+loop-less c = search needs
 
--- src/memory.rt:19:5
 loop-again : tie.Need-loop-again Inv-loop μ-loop
-loop-again c = ?
+loop-again c = search needs
 
--- src/memory.rt:16:1
 same-length : tie.Need-same-length Inv-loop μ-loop
-same-length c = ?
+same-length c = search needs
 
--- src/memory.rt:16:1
 returns : tie.Need-returns Inv-loop μ-loop
-returns c = ?
+returns c = search needs
 
 pub lay-spec : {M : Type 1} → statement M
 lay-spec =

@@ -1,51 +1,40 @@
+use Prim.Native.Nat.{_-_}
+use borrow.Author.Needs.{needs}
 use Rattle.vamp_test.proofs.special.marked.Statement.{statement}
 use Rattle.vamp_test.proofs.special.marked.Tie as tie
-use Rattle.vamp_test.proofs.special.marked.Reads as reads
-use Rattle.vamp_test.proofs.special.marked.Lts as lts
-use Rattle.vamp_test.proofs.records.record.Reads as record-reads
-use Rattle.vamp_test.proofs.records.with_special.Reads as with-special-reads
 
 abbrev Inv-loop : tie.InvT-loop
-Inv-loop machine₀ n₀ machine n = ?
+Inv-loop machine₀ n₀ machine n = Unit {0}
 
 abbrev μ-loop : tie.MeasureT-loop
-μ-loop machine₀ n₀ machine n = ?
+μ-loop machine₀ n₀ machine n = 12 - n
 
--- src/special.rt:75:9
 record-requires : tie.Need-record-requires Inv-loop μ-loop
-record-requires c κs = ?
+record-requires c κs = search needs
 
--- src/special.rt:77:5
 loop-holds : tie.Need-loop-holds Inv-loop μ-loop
-loop-holds c = ?
+loop-holds c = search needs
 
--- src/special.rt:78:52
 cast-with-special : tie.Need-cast-with-special Inv-loop μ-loop
-cast-with-special c = ?
+cast-with-special c = search needs
 
--- src/special.rt:78:44
 add-with-special : tie.Need-add-with-special Inv-loop μ-loop
-add-with-special c = ?
+add-with-special c = search needs
 
--- src/special.rt:78:9
 with-special-requires : tie.Need-with-special-requires Inv-loop μ-loop
-with-special-requires c κs = ?
+with-special-requires c κs = search needs
 
--- src/special.rt:79:9
 add-n : tie.Need-add-n Inv-loop μ-loop
-add-n c = ?
+add-n c = search needs
 
--- src/special.rt:77:5
 loop-less : tie.Need-loop-less Inv-loop μ-loop
-loop-less c = ?
+loop-less c = search needs
 
--- src/special.rt:77:5
 loop-again : tie.Need-loop-again Inv-loop μ-loop
-loop-again c = ?
+loop-again c = search needs
 
--- src/special.rt:74:1
 returns : tie.Need-returns Inv-loop μ-loop
-returns c = ?
+returns c = search needs
 
 pub marked-spec : {M : Type 1} → statement M
 marked-spec =
