@@ -1,1 +1,0 @@
-// The drawing stands for the ship.
