@@ -76,6 +76,14 @@ finished t {e} {r} z h f =
     let k : r .len ≡ e .len + length t = ap (λ (x : Line). x .len) f ∙ append-length e t in
     f ∙ ap (λ (x : Line). appended x t) z ∙ written t (omega arith)
 
+-- The line of a text has room for it
+pub roomy : (t : List ℕ) {r : Line} → r ≡ lineOf t → r .len ≤ length (r .bytes)
+unfolding lineOf
+roomy t e = let k = length-append t (replicate (SIZE - length t) 0) in rw e (omega arith)
+
+pub line-room : (t : List ℕ) {r : Line} → r ≡ lineOf t → (r ≡ lineOf t) × (r .len ≤ length (r .bytes))
+line-room t e = (e, roomy t e)
+
 -- ---- Digits
 
 pub digits-length : (b k n : ℕ) → length (digits b k n) ≡ k

@@ -1,4 +1,5 @@
 // Card bytes to a ruling, and a ruling to its line: document 01, "The verdict line".
+ghost use Prim.Native.Nat.{_≤_};
 ghost use mathlib.Core.Path.{_≡_};
 ghost use lib.ListN.{length};
 ghost use Rattle.machine.specs.Record.{LONGEST};
@@ -67,9 +68,10 @@ fn ruling_of(outcome: Outcome) -> Ruling
     }
 }
 
-// The line of a ruling.
+// The line of a ruling. The second promise follows from the first; it stands here for `&bytes[..len]`.
 pub fn line(ruling: Ruling) -> Line
     ensures { λ r. ⌜ r ≡ lineOf (textOf ruling) ⌝ }
+    ensures { λ r. ⌜ r .len ≤ length (r .bytes) ⌝ }
 {
     match ruling {
         Ruling::Refused(number) => refused(number),

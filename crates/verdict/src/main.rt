@@ -18,11 +18,5 @@ fn answer(card: &mut [u8]) {
     let written = line(judge(&card[..n]));
     let len = written.len;
     let bytes = written.bytes;
-    write_first(&bytes, len);
-}
-
-fn write_first(bytes: &[u8], len: usize) {
-    if len <= bytes.len() {
-        io::write_all(STDOUT_FILENO, &bytes[..len]);
-    }
+    io::write_all(STDOUT_FILENO, &bytes[..len]);
 }

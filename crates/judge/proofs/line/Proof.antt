@@ -1,3 +1,4 @@
+use Rattle.judge.proofs.Appending.{line-room}
 use borrow.Author.Needs.{needs}
 use Rattle.judge.proofs.line.Statement.{statement}
 use Rattle.judge.proofs.line.Tie as tie
@@ -12,6 +13,6 @@ line-spec =
     (λ c κs. search needs)
     (λ c. search needs)
     (λ c κs. search needs)
-    (λ c. rw (c .before .before .ruling .given .1) (c .refused .ensures))
-    (λ c. rw (c .before .before .ruling2 .given .1) (c .accepted .ensures))
-    (λ c. rw (c .before .before .ruling3 .given .1) (c .violation .ensures)))
+    (λ c. line-room _ (rw (c .before .before .ruling .given .1) (c .refused .ensures)))
+    (λ c. line-room _ (rw (c .before .before .ruling2 .given .1) (c .accepted .ensures)))
+    (λ c. line-room _ (rw (c .before .before .ruling3 .given .1) (c .violation .ensures))))
