@@ -1,2 +1,4 @@
 pub mod Appending
 pub mod Ruled
+pub mod Longer
+pub mod Decides

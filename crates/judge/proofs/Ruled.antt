@@ -25,7 +25,7 @@ abbrev Ran : Type 0
 Ran = (ℕ × List ℕ) × Machine × List ℕ
 
 -- The two rulings, by the number that the table gives
-judging-refused : (card : List ℕ) (n : ℕ) → n ≡ refusedBy card → (n ≡ 0 → ⊥) → (n, []) ≡ judging card
+pub judging-refused : (card : List ℕ) (n : ℕ) → n ≡ refusedBy card → (n ≡ 0 → ⊥) → (n, []) ≡ judging card
 unfolding judging
 judging-refused card n e d = rw (← e, ne-eqb n 0 d)
 
