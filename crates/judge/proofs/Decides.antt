@@ -37,7 +37,7 @@ digits-decide b zero n m z l e = rw (pow-zero b) (mod-one n ∙ sym (mod-one m))
 digits-decide b (suc k) n m z l e =
     let p : 0 < b ^ k = one-le-pow k b z in
     let g : n / b ^ k % b ≡ m / b ^ k % b =
-        glyph-decides (n / b ^ k % b) (m / b ^ k % b) (lt-of-lt-of-le (mod-lt (n / b ^ k) z) l) (lt-of-lt-of-le (mod-lt (m / b ^ k) z) l) (ap (λ (t : List ℕ). getD t 0 0) e) in
+    glyph-decides (n / b ^ k % b) (m / b ^ k % b) (lt-of-lt-of-le (mod-lt (n / b ^ k) z) l) (lt-of-lt-of-le (mod-lt (m / b ^ k) z) l) (ap (λ (t : List ℕ). getD t 0 0) e) in
     let r : n % b ^ k ≡ m % b ^ k = digits-decide b k n m z l (ap (λ (t : List ℕ). drop 1 t) e) in
     rw (pow-succ' b k, mod-mul n z p, mod-mul m z p, g, r)
 
@@ -128,7 +128,7 @@ split (x ∷ xs) (y ∷ ys) s t u p q l e =
 
 -- ---- The theorem
 
--- Values of 32 bits, and no word, written 0, for 21 and 22: what `judge` gives (Told in Rulings) and every value of the type has
+-- Values of 32 bits, and word 0 for 21 and 22, whose line tells none: all that `judge` gives is so (Judged)
 abbrev pub Proper : Ruling → Type 0
 Proper (Refused n) = n < 2 ^ 32
 Proper (Accepted n d) = (n < 2 ^ 32) × (d < 2 ^ 32)

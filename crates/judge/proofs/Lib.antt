@@ -2,3 +2,4 @@ pub mod Appending
 pub mod Ruled
 pub mod Longer
 pub mod Decides
+pub mod Judged
