@@ -30,5 +30,6 @@ ranOf card = runs (recordOf card) (codeBuffer card) (dataBuffer card)
 abbrev pub refusedBy : List ℕ → ℕ
 refusedBy card = refusal card LONGEST LONGEST DOUBLES
 
+-- A refused card is answered by its number, any other by its run
 unfoldable pub judging : List ℕ → ℕ × List ℕ
 judging card = pick (eqb (refusedBy card) 0) (ruled (ranOf card .0) (ranOf card .1 .dpc)) (refusedBy card, [])
