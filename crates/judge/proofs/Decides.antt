@@ -46,7 +46,7 @@ within : (t : Bool) (n b k r : ℕ) → ltb n b ≡ t → b ≡ 10 ^ k → n < 1
 within true n b k r e p h = rw (sym p) (ltb-true n b e)
 within false n b k r e p h = h
 
-places-hold : (n : ℕ) → n < 10 ^ 10 → n < 10 ^ places n
+pub places-hold : (n : ℕ) → n < 10 ^ 10 → n < 10 ^ places n
 unfolding places
 places-hold n h =
     within (ltb n 10) n 10 1 _ refl refl
@@ -58,6 +58,24 @@ places-hold n h =
     (within (ltb n 10000000) n 10000000 7 _ refl refl
     (within (ltb n 100000000) n 100000000 8 _ refl refl
     (within (ltb n 1000000000) n 1000000000 9 10 refl refl h))))))))
+
+-- And no fewer hold it: no leading zeros
+least : (t : Bool) (n b k r : ℕ) → ltb n b ≡ t → 10 ^ (k - 1) ≤ n → (b ≤ n → 10 ^ (r - 1) ≤ n) → 10 ^ (pick t k r - 1) ≤ n
+least true n b k r e lo f = lo
+least false n b k r e lo f = f (ltb-false n b e)
+
+pub places-fewest : (n : ℕ) → 1 ≤ n → 10 ^ (places n - 1) ≤ n
+unfolding places
+places-fewest n h =
+    least (ltb n 10) n 10 1 _ refl h
+    (λ a. least (ltb n 100) n 100 2 _ refl a
+    (λ b. least (ltb n 1000) n 1000 3 _ refl b
+    (λ c. least (ltb n 10000) n 10000 4 _ refl c
+    (λ d. least (ltb n 100000) n 100000 5 _ refl d
+    (λ e. least (ltb n 1000000) n 1000000 6 _ refl e
+    (λ f. least (ltb n 10000000) n 10000000 7 _ refl f
+    (λ g. least (ltb n 100000000) n 100000000 8 _ refl g
+    (λ i. least (ltb n 1000000000) n 1000000000 9 10 refl i (λ j. j)))))))))
 
 decimal-decides : (n m : ℕ) → n < 2 ^ 32 → m < 2 ^ 32 → decimal n ≡ decimal m → n ≡ m
 unfolding decimal
