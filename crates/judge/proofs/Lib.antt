@@ -1,0 +1,5 @@
+pub mod Appending
+pub mod Ruled
+pub mod Longer
+pub mod Decides
+pub mod Judged

@@ -1,0 +1,81 @@
+// Card bytes to a ruling, and a ruling to its line: document 01, "The verdict line".
+ghost use Prim.Native.Nat.{_≤_};
+ghost use mathlib.Core.Path.{_≡_};
+ghost use lib.ListN.{length};
+ghost use Rattle.machine.specs.Record.{LONGEST};
+ghost use Rattle.card.specs.Card.{DOUBLES};
+ghost use Rattle.assembler.specs.Runs.{verdictAnswer};
+ghost use Rattle.judge.specs.Judging.{answerOf, ruled, judging};
+ghost use Rattle.judge.specs.Line.{lineOf, textOf};
+
+mod digits;
+mod lines;
+
+use assembler::Outcome;
+use assembler::Verdict;
+use assembler::run;
+use card::Answer;
+use card::load;
+pub use lines::Line;
+use lines::accepted;
+use lines::refused;
+use lines::violation;
+
+// What is said of a card.
+pub enum Ruling {
+    // The number of the refusal.
+    Refused(u32),
+    // The steps taken, and the DPC of the record that the run handed back.
+    Accepted(u32, u32),
+    // The number of the test, the step, its DPC and its word (0 for 21 and 22).
+    Violation(u32, u32, u32, u32),
+}
+
+// Loads a card and runs it.
+pub fn judge(card: &[u8]) -> Ruling
+    ensures { λ r. ⌜ answerOf r ≡ judging (now (card .entry)) ⌝ }
+{
+    let mut code = [0u32; 1024];
+    let mut words = [0u32; 1024];
+    let mut memory = [0u64; 2048];
+    judge_in(card, &mut code, &mut words, &mut memory)
+}
+
+// The same, in buffers of the right lengths.
+fn judge_in(card: &[u8], code: &mut [u32], words: &mut [u32], memory: &mut [u64]) -> Ruling
+    requires { ⌜ length (now code) ≡ LONGEST ⌝ ∗ ⌜ length (now words) ≡ LONGEST ⌝ ∗ ⌜ length (now memory) ≡ DOUBLES ⌝ }
+    ensures { λ r. ⌜ answerOf r ≡ judging (now (card .entry)) ⌝ }
+{
+    let loaded = load(card, code, words, memory);
+    let answer = loaded.answer;
+    let machine = loaded.machine;
+    match answer {
+        Answer::Refused(number) => Ruling::Refused(number),
+        Answer::Loaded => ruling_of(run(machine, code, words)),
+    }
+}
+
+// A run's outcome as a ruling.
+fn ruling_of(outcome: Outcome) -> Ruling
+    ensures { λ r. ⌜ answerOf r ≡ ruled (verdictAnswer (outcome .verdict)) (outcome .machine .dpc) ⌝ }
+{
+    let verdict = outcome.verdict;
+    let machine = outcome.machine;
+    match verdict {
+        Verdict::Refused(number) => Ruling::Refused(number),
+        Verdict::Accepted(steps) => Ruling::Accepted(steps, machine.dpc),
+        Verdict::Violation(number, step, dpc, word) => Ruling::Violation(number, step, dpc, word),
+    }
+}
+
+// The line of a ruling. The second promise follows from the first; it stands here for `&bytes[..len]`.
+pub fn line(ruling: Ruling) -> Line
+    ensures { λ r. ⌜ r ≡ lineOf (textOf ruling) ⌝ }
+    ensures { λ r. ⌜ r .len ≤ length (r .bytes) ⌝ }
+{
+    match ruling {
+        Ruling::Refused(number) => refused(number),
+        Ruling::Accepted(steps, dpc) => accepted(steps, dpc),
+        Ruling::Violation(number, step, dpc, word) => violation(number, step, dpc, word),
+    }
+}

@@ -1,0 +1,127 @@
+// A line, written from its front.
+ghost use Prim.Native.Nat.{_+_, _≤_, _<_};
+ghost use mathlib.Core.Path.{_≡_};
+ghost use mathlib.Core.List.{[]};
+ghost use lib.ListN.{length};
+ghost use Rattle.judge.specs.Line.{SIZE, lineOf, decimal, hex, wordText, refusedText, acceptedText, violationText};
+ghost use Rattle.judge.specs.Work.{pushed, appended};
+ghost use Rattle.judge.specs.Digits.{digits};
+use crate::digits::digit;
+use crate::digits::places;
+
+// The bytes of a line and how many they are; the bytes past them are zero.
+pub struct Line {
+    pub bytes: [u8; 64],
+    pub len: usize,
+}
+
+pub(crate) fn refused(number: u32) -> Line
+    ensures { λ r. ⌜ r ≡ lineOf (refusedText number) ⌝ }
+{
+    let a = put(empty(), b"refused ");
+    let b = put_decimal(a, number);
+    put(b, b"\n")
+}
+
+pub(crate) fn accepted(steps: u32, dpc: u32) -> Line
+    ensures { λ r. ⌜ r ≡ lineOf (acceptedText steps dpc) ⌝ }
+{
+    let a = put(empty(), b"accepted ");
+    let b = put_decimal(a, steps);
+    let c = put(b, b" next ");
+    let d = put_hex(c, dpc);
+    put(d, b"\n")
+}
+
+pub(crate) fn violation(number: u32, step: u32, dpc: u32, word: u32) -> Line
+    ensures { λ r. ⌜ r ≡ lineOf (violationText number step dpc word) ⌝ }
+{
+    let a = put(empty(), b"violation ");
+    let b = put_decimal(a, number);
+    let c = put(b, b" step ");
+    let d = put_decimal(c, step);
+    let e = put(d, b" at ");
+    let f = put_hex(e, dpc);
+    let g = put(f, b" word ");
+    let h = put_word(g, number, word);
+    put(h, b"\n")
+}
+
+fn empty() -> Line
+    ensures { λ r. ⌜ r ≡ lineOf [] ⌝ }
+    ensures { λ r. ⌜ r .len ≡ 0 ⌝ }
+{
+    Line {
+        bytes: [0; 64],
+        len: 0,
+    }
+}
+
+fn push(line: Line, byte: u8) -> Line
+    requires { ⌜ line .len < SIZE ⌝ }
+    ensures { λ r. ⌜ r ≡ pushed line byte ⌝ }
+{
+    let mut bytes = line.bytes;
+    let at = line.len;
+    bytes[at] = byte;
+    Line { bytes, len: at + 1 }
+}
+
+fn put(line: Line, text: &[u8]) -> Line
+    requires { ⌜ line .len + length (now text) ≤ SIZE ⌝ }
+    ensures { λ r. ⌜ r ≡ appended line (now (text .entry)) ⌝ }
+    ensures { λ r. ⌜ r .len ≡ line .len + length (now (text .entry)) ⌝ }
+{
+    let mut out = line;
+    let mut i = 0;
+    while i < text.len() {
+        out = push(out, text[i]);
+        i += 1;
+    }
+    out
+}
+
+fn put_digits(line: Line, n: u32, base: u32, count: u32) -> Line
+    requires { ⌜ 0 < base ⌝ ∗ ⌜ base ≤ 16 ⌝ ∗ ⌜ line .len + count ≤ SIZE ⌝ }
+    ensures { λ r. ⌜ r ≡ appended line (digits base count n) ⌝ }
+    ensures { λ r. ⌜ r .len ≡ line .len + count ⌝ }
+{
+    let mut out = line;
+    let mut k = count;
+    while k > 0 {
+        k -= 1;
+        out = push(out, digit(n, base, k));
+    }
+    out
+}
+
+fn put_decimal(line: Line, n: u32) -> Line
+    requires { ⌜ line .len + 10 ≤ SIZE ⌝ }
+    ensures { λ r. ⌜ r ≡ appended line (decimal n) ⌝ }
+    ensures { λ r. ⌜ r .len ≤ line .len + 10 ⌝ }
+{
+    put_digits(line, n, 10, places(n))
+}
+
+fn put_hex(line: Line, n: u32) -> Line
+    requires { ⌜ line .len + 8 ≤ SIZE ⌝ }
+    ensures { λ r. ⌜ r ≡ appended line (hex n) ⌝ }
+    ensures { λ r. ⌜ r .len ≡ line .len + 8 ⌝ }
+{
+    put_digits(line, n, 16, 8)
+}
+
+// The word of a violation: none for 21 and 22.
+fn put_word(line: Line, number: u32, word: u32) -> Line
+    requires { ⌜ line .len + 8 ≤ SIZE ⌝ }
+    ensures { λ r. ⌜ r ≡ appended line (wordText number word) ⌝ }
+    ensures { λ r. ⌜ r .len ≤ line .len + 8 ⌝ }
+{
+    if number == 21 {
+        return put(line, b"-");
+    }
+    if number == 22 {
+        return put(line, b"-");
+    }
+    put_hex(line, word)
+}
