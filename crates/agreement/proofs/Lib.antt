@@ -3,6 +3,5 @@ pub mod Plain
 pub mod Step
 pub mod Simulation
 pub mod Theorem
-pub mod Onwards
 pub mod Results
 pub mod Inhabited

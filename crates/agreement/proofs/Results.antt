@@ -3,8 +3,6 @@ use Prim.Native.Nat.{ℕ, zero, suc, _+_, _≤_, _<_}
 use mathlib.Core.Path.{_≡_, refl, sym, ap, subst, _∙_}
 use mathlib.Core.Bool.{Bool, true, false, not, _||_}
 use mathlib.Core.List.{List, [], _∷_}
-use native.Mathlib.Nat.{zero-add}
-use native.Mathlib.Numerals.{add-one}
 use native.Mathlib.Omega.{arith}
 use borrow.Author.Tests.{eq-eqb}
 use lib.Dec.{eqb}
@@ -20,13 +18,13 @@ use Rattle.vamp.specs.Memory.{DOUBLE-WORDS}
 use Rattle.vamp.specs.Events.{stepped, interrupt, MISALIGNED, ILLEGAL}
 use Rattle.vamp.specs.Steps.{running, vstep, onward, Course, start}
 use Rattle.vamp.specs.Inner.{course}
+use Rattle.vamp.proofs.Sequence.{clear-runs, clear-stops}
 use Rattle.card.specs.Card.{Bytes, refusal, recordOf, codeBuffer, dataBuffer, memoryBuffer}
 use Rattle.card.proofs.Memory.{code-length, data-length, memory-length}
 use Rattle.agreement.specs.Demand.{drawing, ship, Agree, Together, checker, Stands}
 use Rattle.agreement.specs.Calls.{ran, sailed, Follows, Calls, Demand-3-of-the-calls}
 use Rattle.agreement.proofs.Relation.{Same}
 use Rattle.agreement.proofs.Simulation.{same-state}
-use Rattle.agreement.proofs.Onwards.{clear-run, clear-stop}
 use Rattle.agreement.proofs.Theorem.{passed, laid, same, together, agrees, event-21, event-23, event-25, Ok}
 
 module _ (card : List ℕ) (b : Bytes card) (ok : refusal card LONGEST LONGEST DOUBLE-WORDS ≡ 0) where
@@ -61,18 +59,17 @@ module _ (card : List ℕ) (b : Bytes card) (ok : refusal card LONGEST LONGEST D
       let s = same card b ok k f k (omega arith) in
       record {
         takes =
-            sails k (course (0 + k) (stepped 0) 0 (ship card k)) (clear-run k 0 0 (stateOf r, memoryBuffer card) (together card b ok k f .steps))
-            ∙ ap (λ (j : ℕ). (j, stepped 0, 0, withState r (ship card k .0), ship card k .1)) (zero-add k)
-            ∙ ap (λ (q : State). (k, stepped 0, 0, withState r q, ship card k .1)) (s .state);
-        agrees = agrees r (laid card b ok) (codeBuffer card) (drawing card k) (drawing card k .0, ship card k .1) (same-state (r .code) (r .«data») (laid card b ok) (codeBuffer card) (drawing card k) (ship card k) s);
+          sails k (course k (stepped 0) 0 (ship card k)) (clear-runs k (stateOf r, memoryBuffer card) (together card b ok k f .steps))
+          ∙ ap (λ (q : State). (k, stepped 0, 0, withState r q, ship card k .1)) (s .state);
+        agrees =
+          agrees r (laid card b ok) (codeBuffer card) (drawing card k) (drawing card k .0, ship card k .1)
+          (same-state (r .code) (r .«data») (laid card b ok) (codeBuffer card) (drawing card k) (ship card k) s);
       }
 
   raises : (k : ℕ) (a : ℕ × ℕ) → Ok card b ok k → vstep (ship card k) .0 ≡ a → (a .0 ≡ 0 → ⊥) → sailed card (k + 1) ≡ (k, a, 0, after k, ship card k .1)
   raises k a f e d =
       let s = same card b ok k f k (omega arith) in
-      ap (sailed card) (add-one k)
-      ∙ sails (suc k) (course (0 + k) a 0 (ship card k)) (clear-stop k 0 0 (stateOf r, memoryBuffer card) a (together card b ok k f .steps) e d)
-      ∙ ap (λ (j : ℕ). (j, a, 0, withState r (ship card k .0), ship card k .1)) (zero-add k)
+      sails (k + 1) (course k a 0 (ship card k)) (clear-stops (k + 1) k (stateOf r, memoryBuffer card) a (omega arith) (together card b ok k f .steps) e d)
       ∙ ap (λ (q : State). (k, a, 0, withState r q, ship card k .1)) (s .state)
 
   -- What a run's answer tells of the record and the data that it hands back
