@@ -59,11 +59,11 @@ module _ (card : List ℕ) (b : Bytes card) (ok : refusal card LONGEST LONGEST D
       let s = same card b ok k f k (omega arith) in
       record {
         takes =
-          sails k (course k (stepped 0) 0 (ship card k)) (clear-runs k (stateOf r, memoryBuffer card) (together card b ok k f .steps))
-          ∙ ap (λ (q : State). (k, stepped 0, 0, withState r q, ship card k .1)) (s .state);
+            sails k (course k (stepped 0) 0 (ship card k)) (clear-runs k (stateOf r, memoryBuffer card) (together card b ok k f .steps))
+            ∙ ap (λ (q : State). (k, stepped 0, 0, withState r q, ship card k .1)) (s .state);
         agrees =
-          agrees r (laid card b ok) (codeBuffer card) (drawing card k) (drawing card k .0, ship card k .1)
-          (same-state (r .code) (r .«data») (laid card b ok) (codeBuffer card) (drawing card k) (ship card k) s);
+            agrees r (laid card b ok) (codeBuffer card) (drawing card k) (drawing card k .0, ship card k .1)
+            (same-state (r .code) (r .«data») (laid card b ok) (codeBuffer card) (drawing card k) (ship card k) s);
       }
 
   raises : (k : ℕ) (a : ℕ × ℕ) → Ok card b ok k → vstep (ship card k) .0 ≡ a → (a .0 ≡ 0 → ⊥) → sailed card (k + 1) ≡ (k, a, 0, after k, ship card k .1)

@@ -33,7 +33,7 @@ fn wide(byte: u8) -> u32
 }
 
 // The number of 16 bits at an offset.
-pub fn number16(card: &[u8], at: usize) -> u32
+pub(crate) fn number16(card: &[u8], at: usize) -> u32
     requires { ⌜ at + 2 ≤ length (now card) ⌝ }
     ensures { λ r. ⌜ (r ≡ number16 (now (card .entry)) at) × (r < 2 ^ 16) ⌝ }
 {
@@ -43,7 +43,7 @@ pub fn number16(card: &[u8], at: usize) -> u32
 }
 
 // The number of 32 bits at an offset.
-pub fn number32(card: &[u8], at: usize) -> u32
+pub(crate) fn number32(card: &[u8], at: usize) -> u32
     requires { ⌜ at + 4 ≤ length (now card) ⌝ }
     ensures { λ r. ⌜ r ≡ number32 (now (card .entry)) at ⌝ }
 {
@@ -67,7 +67,7 @@ fn registers(card: &[u8], from: usize) -> [u32; 32]
 }
 
 // The record of a card that has its fields.
-pub fn record_of(card: &[u8]) -> Machine
+pub(crate) fn record_of(card: &[u8]) -> Machine
     requires { ⌜ BODY ≤ length (now card) ⌝ }
     ensures { λ r. ⌜ r ≡ recordOf (now (card .entry)) ⌝ }
 {

@@ -17,7 +17,7 @@ use machine::refusals::contains;
 const UPPER: u64 = 4294967296;
 
 // Fills the three buffers, and hands the record out.
-pub fn work(card: &[u8], code: &mut [u32], words: &mut [u32], memory: &mut [u64]) -> Machine
+pub(crate) fn work(card: &[u8], code: &mut [u32], words: &mut [u32], memory: &mut [u64]) -> Machine
     requires { ⌜ Room (now card) (now code) (now words) (now memory) ⌝ }
     ensures { λ r. ⌜ (r, now (code .exit), now (words .exit), now (memory .exit)) ≡ loaded (now (card .entry)) ⌝ }
 {

@@ -22,7 +22,7 @@ const WORDS: usize = Machine::LONGEST as usize;
 const DOUBLES: usize = 2048;
 
 // The number of the first test that holds, 0 where none does.
-pub fn judge(card: &[u8], code: usize, words: usize, memory: usize) -> u32
+pub(crate) fn judge(card: &[u8], code: usize, words: usize, memory: usize) -> u32
     ensures { λ r. ⌜ r ≡ refusal (now (card .entry)) code words memory ⌝ }
 {
     if wrong_length(code, words, memory) {

@@ -4,7 +4,7 @@ ghost use mathlib.Core.Path.{_≡_};
 ghost use Rattle.judge.specs.Digits.{glyph as Digits·glyph, places as Digits·places};
 
 // Digit k of n, counted from the last.
-pub fn digit(n: u32, base: u32, k: u32) -> u8
+pub(crate) fn digit(n: u32, base: u32, k: u32) -> u8
     requires { ⌜ 0 < base ⌝ ∗ ⌜ base ≤ 16 ⌝ }
     ensures { λ r. ⌜ r ≡ Digits·glyph (n / base ^ k % base) ⌝ }
 {
@@ -29,7 +29,7 @@ fn glyph(d: u32) -> u8
 }
 
 // How many decimal digits n has.
-pub fn places(n: u32) -> u32
+pub(crate) fn places(n: u32) -> u32
     ensures { λ r. ⌜ r ≡ Digits·places n ⌝ }
     ensures { λ r. ⌜ r ≤ 10 ⌝ }
 {
