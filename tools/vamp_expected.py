@@ -388,7 +388,7 @@ def instructions():
         if name in SIZE:
             fields["RS1"], fields["imm"] = 2, -3
         text = f"{make(name, fields) | unused(name):08X}"
-        run(name, Machine(**given, spr={ESR: 1, EPC: 3, EDPC: 4}), 1, text)
+        run(f"word {text}", Machine(**given, spr={ESR: 1, EPC: 3, EDPC: 4}), 1, text)
 
 
 def refusals():

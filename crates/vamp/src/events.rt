@@ -15,10 +15,11 @@ use machine::Machine;
 pub(crate) fn access(askew: bool, address: u32) -> Answer
     ensures { λ r. ⌜ answered r ≡ accessEvent askew address ⌝ }
 {
+    let past = Machine::MEMORY <= address as u64;
     if askew {
         return Answer::Misaligned;
     }
-    if Machine::MEMORY <= address as u64 {
+    if past {
         return Answer::PastMemory;
     }
     Answer::Stepped

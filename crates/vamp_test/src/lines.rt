@@ -57,7 +57,7 @@ pub(crate) fn step_line(name: &[u8], machine: Machine, word: u32) {
     lent_step(machine, &before, &mut memory);
 }
 
-fn laid_run(machine: Machine, start: u32, code: [u32; 8], steps: u32) {
+pub(crate) fn laid_run(machine: Machine, start: u32, code: [u32; 8], steps: u32) {
     let before = laid(start, code);
     let mut memory = before;
     lent_run(machine, &before, &mut memory, steps);
