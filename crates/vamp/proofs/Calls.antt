@@ -1,5 +1,5 @@
 -- The public calls: the refusals, and the work of the loop.
-use Prim.Native.Nat.{ℕ, suc}
+use Prim.Native.Nat.{ℕ}
 use mathlib.Core.Path.{_≡_, refl, sym, ap, ap₂, _∙_}
 use mathlib.Core.Bool.{Bool, true, false, not}
 use mathlib.Core.List.{List}
@@ -31,38 +31,46 @@ once x = by (eqb (vstep x .0 .0) 0) refl
         let y = onward-not 0 (start x) h in
         (ap (λ (c : Course). c .answer) y, ap (λ (c : Course). c .left) y ∙ sym (step-kept x h))
 
+-- Answer, record and memory of a sequence
+abbrev alone : ℕ × (ℕ × ℕ) × ℕ × Machine × List ℕ → (ℕ × ℕ) × Machine × List ℕ
+alone (n, a, k, m, mem) = (a, m, mem)
+
+-- Those of a sequence of one step are the step's
+single : (m : Machine) (mem : List ℕ) → alone (running m mem 1) ≡ stepping m mem
+unfolding running stepping
+single m mem = by (not (eqb (length mem) DOUBLE-WORDS)) (notZero m)
+  where
+    x : Vamp
+    x = (stateOf m, mem)
+
+    c : Course
+    c = onward 1 (start x)
+
+    by : (t u : Bool)
+        → alone (pick t (0, refused 1, 0, m, mem) (pick u (0, refused 11, 0, m, mem) (c .steps, c .answer, c .masked, withState m (c .left .0), c .left .1)))
+        ≡ pick t (refused 1, m, mem) (pick u (refused 11, m, mem) (vstep x .0, withState m (vstep x .1 .0), vstep x .1 .1))
+    by true u = refl
+    by false true = refl
+    by false false = ap₂ (λ (a : ℕ × ℕ) (y : Vamp). (a, withState m (y .0), y .1)) (once x .0) (once x .1)
+
+-- A result that is a sequence's, of one step
+pub only : (n k : ℕ) (a : ℕ × ℕ) (after m : Machine) (left mem : List ℕ) → (n, a, k, after, left) ≡ running m mem 1 → (a, after, left) ≡ stepping m mem
+only n k a after m left mem e = ap alone e ∙ single m mem
+
 module _ (m : Machine) (mem : List ℕ) where
   -- 1
-  pub step-length : (length mem ≡ DOUBLE-WORDS → ⊥) → (refused 1, m, mem) ≡ stepping m mem
-  unfolding stepping
-  step-length h = rw (stepping, ne-eqb (length mem) DOUBLE-WORDS h)
-
   pub run-length : (n : ℕ) → (length mem ≡ DOUBLE-WORDS → ⊥) → (0, refused 1, 0, m, mem) ≡ running m mem n
   unfolding running
   run-length n h = rw (running, ne-eqb (length mem) DOUBLE-WORDS h)
 
   module _ (l : length mem ≡ DOUBLE-WORDS) where
     -- 11
-    pub step-zero : notZero m ≡ true → (refused 11, m, mem) ≡ stepping m mem
-    unfolding stepping
-    step-zero z = rw (stepping, eq-eqb (length mem) DOUBLE-WORDS l, z)
-
     pub run-zero : (n : ℕ) → notZero m ≡ true → (0, refused 11, 0, m, mem) ≡ running m mem n
     unfolding running
     run-zero n z = rw (running, eq-eqb (length mem) DOUBLE-WORDS l, z)
 
     -- The work
     module _ (z : notZero m ≡ false) (c : Course) where
-      pub step-works : c ≡ onward 1 (start (stateOf m, mem)) → (c .answer, withState m (c .left .0), c .left .1) ≡ stepping m mem
-      unfolding stepping
-      step-works e =
-          let o = once (stateOf m, mem) in
-          ap₂ (λ (a : ℕ × ℕ) (x : Vamp). (a, withState m (x .0), x .1)) (ap (λ (c : Course). c .answer) e ∙ o .0) (ap (λ (c : Course). c .left) e ∙ o .1)
-          ∙ worked
-        where
-          worked : (vstep (stateOf m, mem) .0, withState m (vstep (stateOf m, mem) .1 .0), vstep (stateOf m, mem) .1 .1) ≡ stepping m mem
-          worked = rw (stepping, eq-eqb (length mem) DOUBLE-WORDS l, z)
-
       pub run-works : (n : ℕ) → c ≡ onward n (start (stateOf m, mem)) → (c .steps, c .answer, c .masked, withState m (c .left .0), c .left .1) ≡ running m mem n
       unfolding running
       run-works n e =

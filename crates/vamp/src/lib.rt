@@ -100,37 +100,13 @@ pub struct Ran {
 // The double words of VAMP memory.
 pub const DOUBLE_WORDS: usize = 2048;
 
-// One step.
+// One step: a sequence of one.
 pub fn step(machine: Machine, memory: &mut [u64]) -> Stepped
     ensures { λ r. ⌜ (answered (r .answer), r .machine, now (memory .exit)) ≡ stepping machine (now (memory .entry)) ⌝ }
 {
-    if memory.len() != DOUBLE_WORDS {
-        return Stepped {
-            answer: Answer::WrongLength,
-            machine,
-        };
-    }
-    if not_zero(machine) {
-        return Stepped {
-            answer: Answer::NotZero,
-            machine,
-        };
-    }
-    let code = machine.code;
-    let words = machine.data;
-    let mut gpr = machine.gpr;
-    let mut spr = machine.spr;
-    let course = course::go(machine.dpc, machine.pc, &mut gpr, &mut spr, memory, 1);
-    let answer = course.answer;
-    let after = Machine {
-        code,
-        data: words,
-        limit: machine.limit,
-        dpc: course.dpc,
-        pc: course.pc,
-        gpr,
-        spr,
-    };
+    let ran = run(machine, memory, 1);
+    let answer = ran.answer;
+    let after = ran.machine;
     Stepped {
         answer,
         machine: after,
