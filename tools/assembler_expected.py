@@ -8,10 +8,9 @@ the words come from the tables of words_expected.py. The cases are those of crat
 in hex where this script has their text; docs/TESTS.md lists them.
 """
 import functools
-import re
 
 import words_expected
-from words_expected import NAME, SYNTAX, TABLE, make, unused
+from words_expected import NAME, SYNTAX, TABLE, full, make, word
 
 # Document 01, "Words": what the assembler machine runs.
 TWENTY = """lw sw movs2i movi2s add sub slli srli addi lhgi andi ori xori sne sgr sge beqz bnez jal jr""".split()
@@ -23,28 +22,6 @@ THIRTEEN = [*range(12), MODE]
 # Document 01, "The run card": the length of each buffer in words, modelled memory in bytes.
 BUFFER = 1024
 MEMORY = 16384
-
-
-# ---- Words of a text
-
-
-def pattern(syntax):
-    """What the operands of a syntax look like, as in r2,r1(8)."""
-    return NAME.sub(lambda m: ("r" if m[0][0] == "R" else "") + rf"(?P<{m[0]}>-?\d+)", re.escape(syntax))
-
-
-def word(text):
-    """The word of a text, as in `lw r2,r1(8)`; a number in hex stands for itself."""
-    name, _, operands = text.partition(" ")
-    if name not in TABLE:
-        return int(text, 16)
-    found = re.fullmatch(pattern(TABLE[name][2]), operands)
-    return make(name, {field: int(value) for field, value in found.groupdict().items()})
-
-
-def full(text):
-    """The word of a text with ones in every field that the instruction does not use."""
-    return word(text) | unused(text.split()[0])
 
 
 # A long run reads the same words over and over.

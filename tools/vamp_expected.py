@@ -7,10 +7,8 @@ The simulator below is written from document 01's "What an instruction does", "E
 memory is bytes. The words come from the tables of words_expected.py, the thesis' program from thesis_program.py. The cases are
 those of crates/vamp_test/src, which has them as words in hex where this script has their text; docs/TESTS.md lists them.
 """
-import re
-
 import thesis_program
-from words_expected import NAME, TABLE, make, read, unused
+from words_expected import TABLE, full, make, read, unused, word
 
 # Document 01, "What an instruction does": the thirteen special registers.
 SR, ESR, EPC, EDPC, MODE = 0, 1, 3, 4, 16
@@ -25,28 +23,6 @@ SIZE = {"lb": 1, "lbu": 1, "sb": 1, "lh": 2, "lhu": 2, "sh": 2, "lw": 4, "sw": 4
 
 # What memory holds where a case says nothing else: bytes of both signs, and a legal word at the very end.
 BACKGROUND = {256: 0xB5B67798, 260: 0x91F233D4, MEMORY - 4: 0x8C020100}
-
-
-# ---- Words of a text
-
-
-def pattern(syntax):
-    """What the operands of a syntax look like, as in r2,r1(8)."""
-    return NAME.sub(lambda m: ("r" if m[0][0] == "R" else "") + rf"(?P<{m[0]}>-?\d+)", re.escape(syntax))
-
-
-def word(text):
-    """The word of a text, as in `lw r2,r1(8)`; a number in hex stands for itself."""
-    name, _, operands = text.partition(" ")
-    if name not in TABLE:
-        return int(text, 16)
-    found = re.fullmatch(pattern(TABLE[name][2]), operands)
-    return make(name, {field: int(value) for field, value in found.groupdict().items()})
-
-
-def full(text):
-    """The word of a text with ones in every field that the instruction does not use."""
-    return f"{word(text) | unused(text.split()[0]):08X}"
 
 
 # ---- The machine
@@ -337,7 +313,7 @@ def special():
     for n in range(32):
         run(f"movs2i from special register {n}", Machine(0, 0xAAAAAAAA, spr=marks), 1, f"movs2i r2,SPR[{n}]")
     both("rfe", Machine(spr=marks), "rfe")
-    run("rfe, with other bits", Machine(spr=marks), 1, full("rfe"))
+    run("rfe, with other bits", Machine(spr=marks), 1, f"{full('rfe'):08X}")
     run("rfe to a misaligned DPC", Machine(spr={ESR: 64, EPC: 8, EDPC: 6}), 2, "rfe")
     run("rfe and on", Machine(spr={ESR: 64, EPC: 12, EDPC: 8}), 3, "rfe", "0", "addi r1,r0,1", "addi r2,r0,2")
     run("rfe in a delay slot", Machine(spr={EPC: 12, EDPC: 16}), 3, "jal 20", "rfe", "0", "addi r1,r0,1", "addi r2,r0,2")

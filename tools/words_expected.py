@@ -128,6 +128,25 @@ def unused(name):
     return sum(placed(-1, bits) for f, bits in FIELDS[form].items() if f not in NAME.findall(syntax))
 
 
+def pattern(syntax):
+    """What the operands of a syntax look like, as in r2,r1(8)."""
+    return NAME.sub(lambda m: ("r" if m[0][0] == "R" else "") + rf"(?P<{m[0]}>-?\d+)", re.escape(syntax))
+
+
+def word(text):
+    """The word of a text, as in `lw r2,r1(8)`; a number in hex stands for itself."""
+    name, _, operands = text.partition(" ")
+    if name not in TABLE:
+        return int(text, 16)
+    found = re.fullmatch(pattern(TABLE[name][2]), operands)
+    return make(name, {field: int(value) for field, value in found.groupdict().items()})
+
+
+def full(text):
+    """The word of a text with ones in every field that the instruction does not use."""
+    return word(text) | unused(text.split()[0])
+
+
 def operands(name, **others):
     """The operands of a case: all different, the immediate negative for an odd opcode."""
     form, number, _ = TABLE[name]
