@@ -50,11 +50,7 @@ Small does.Nothing = Unit {0}
 
 register-small : (g : List ℕ) (n : ℕ) → Words g → register g n < 2 ^ 32
 unfolding register
-register-small g n w = by (ltb n 32)
-  where
-    by : (t : Bool) → pick t (getD g n 0) 0 < 2 ^ 32
-    by true = w n
-    by false = omega arith
+register-small g n w = w (n % 32)
 
 plus-small : (a b : ℕ) → plus a b < 2 ^ 32
 unfolding plus
@@ -167,12 +163,11 @@ set-words xs n x l w i = by (eqb i n) refl (ltb n (length xs)) refl
 
 put-words : (g : List ℕ) (n x : ℕ) → x < 2 ^ 32 → Words g → Words (put g n x)
 unfolding put
-put-words g n x l w = by (eqb n 0) (ltb n 32)
+put-words g n x l w = by (eqb (n % 32) 0)
   where
-    by : (t u : Bool) → Words (pick t g (pick u (set g n x) g))
-    by true u = w
-    by false true = set-words g n x l w
-    by false false = w
+    by : (t : Bool) → Words (pick t g (set g (n % 32) x))
+    by true = w
+    by false = set-words g (n % 32) x l w
 
 special-words : (p : List ℕ) (n x : ℕ) → x < 2 ^ 32 → Words p → Words (putSpecial p n x)
 unfolding putSpecial

@@ -1,11 +1,11 @@
 -- R0, the unused special registers and MODE stay 0: no effect that leaves MODE at 0 sets one of them.
-use Prim.Native.Nat.{ℕ, zero, suc, _<_}
+use Prim.Native.Nat.{ℕ, zero, suc, _%_, _<_}
 use mathlib.Core.Path.{_≡_, refl, sym, ap, _∙_}
 use mathlib.Core.Bool.{Bool, true, false, not, _&&_, _||_}
 use mathlib.Core.List.{List, [], _∷_}
 use native.Mathlib.Omega.{arith}
 use borrow.Author.Tests.{eq-eqb, ne-eqb, eqb-true, eqb-false, not-false}
-use lib.Dec.{eqb, ltb}
+use lib.Dec.{eqb}
 use lib.ListN.{getD, set}
 use lib.Seq.{getD-set-other}
 use Rattle.words.specs.Fields.{pick}
@@ -56,12 +56,11 @@ pub record Quiet (g p : List ℕ) : Type 0 where
 
 quiet-put : (g : List ℕ) (n x : ℕ) → getD g 0 0 ≡ 0 → getD (put g n x) 0 0 ≡ 0
 unfolding put
-quiet-put g n x e = by (eqb n 0) refl (ltb n 32)
+quiet-put g n x e = by (eqb (n % 32) 0) refl
   where
-    by : (t : Bool) → eqb n 0 ≡ t → (u : Bool) → getD (pick t g (pick u (set g n x) g)) 0 0 ≡ 0
-    by true f u = e
-    by false f true = getD-set-other {A = ℕ} g n 0 x 0 (λ q. eqb-false n 0 f (sym q)) ∙ e
-    by false f false = e
+    by : (t : Bool) → eqb (n % 32) 0 ≡ t → getD (pick t g (set g (n % 32) x)) 0 0 ≡ 0
+    by true f = e
+    by false f = getD-set-other {A = ℕ} g (n % 32) 0 x 0 (λ q. eqb-false (n % 32) 0 f (sym q)) ∙ e
 
 quiet-special : (p : List ℕ) (n x : ℕ) → modeSet (does.PutSpecial n x) ≡ false → idleSet p ≡ false → idleSet (putSpecial p n x) ≡ false
 unfolding putSpecial modeSet

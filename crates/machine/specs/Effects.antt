@@ -3,7 +3,7 @@ use Prim.Native.Nat.{ℕ, _*_, _%_, _^_}
 use mathlib.Core.Bool.{Bool, true, false, not, _&&_, _||_}
 use mathlib.Core.List.{List, [], _∷_}
 use lib.Bits.{bitAnd, bitOr, bitXor}
-use lib.Dec.{eqb, ltb}
+use lib.Dec.{eqb}
 use lib.IntN.{_+ℤ_, _-ℤ_}
 use lib.ListN.{getD, set}
 use mathlib.Core.Option.{Option, none, some}
@@ -23,13 +23,13 @@ use Rattle.machine.specs.Rulings.{plus, minus, integer, sext, shifted, c
 
 -- ---- The registers
 
--- A number past 31 names no register: it reads 0, and a write to it is dropped
+-- A register's number is a field of five bits
 unfoldable pub register : List ℕ → ℕ → ℕ
-register g n = pick (ltb n 32) (getD g n 0) 0
+register g n = getD g (n % 32) 0
 
 -- R0 is always 0; a write to it is dropped
 unfoldable pub put : List ℕ → ℕ → ℕ → List ℕ
-put g n v = pick (eqb n 0) g (pick (ltb n 32) (set g n v) g)
+put g n v = pick (eqb (n % 32) 0) g (set g (n % 32) v)
 
 -- The thirteen special registers
 abbrev pub SR : ℕ

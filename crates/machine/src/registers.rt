@@ -1,4 +1,4 @@
-// Reading and writing the registers. A number past 31 names no register: it reads 0, and a write to it is dropped.
+// Reading and writing the registers. A number is a field of a word, of five bits: the remainder changes none of those.
 ghost use mathlib.Core.Path.{_≡_};
 ghost use Rattle.machine.specs.Effects.{register, put, putSpecial};
 use crate::Machine;
@@ -6,21 +6,19 @@ use crate::Machine;
 pub(crate) fn value(gpr: &[u32; 32], number: u8) -> u32
     ensures { λ r. ⌜ r ≡ register (now (gpr .entry)) number ⌝ }
 {
-    let at = number as usize;
-    if at < 32 { gpr[at] } else { 0 }
+    let at = (number % 32) as usize;
+    gpr[at]
 }
 
 // R0 is always 0: a write to it is dropped.
 pub(crate) fn write(gpr: &mut [u32; 32], number: u8, value: u32)
     ensures { λ _. ⌜ now (gpr .exit) ≡ put (now (gpr .entry)) number value ⌝ }
 {
-    let at = number as usize;
+    let at = (number % 32) as usize;
     if at == 0 {
         return;
     }
-    if at < 32 {
-        gpr[at] = value;
-    }
+    gpr[at] = value;
 }
 
 // A write to a special register that is none of the thirteen is dropped.
