@@ -1,10 +1,11 @@
 /*
  * Nivoplet: random run cards.
  *
- *   cards [--only LETTER] SEED N           writes a bundle of N cards
- *   cards [--only LETTER] --stats SEED N   prints what those cards lead to
+ *   cards [--only LETTER] [--from I] SEED N           writes a bundle of N cards
+ *   cards [--only LETTER] [--from I] --stats SEED N   prints what those cards lead to
  *
- * Card i of a seed is always the same, whatever N is.
+ * The cards are those with the numbers I to I + N - 1 of the seed, I being 0 if
+ * it is not given. Card i of a seed is always the same, whatever I and N are.
  */
 #include "isa.h"
 #include "program.h"
@@ -354,12 +355,18 @@ static char make_card(uint64_t seed, uint64_t i, char only, struct card_bytes *b
     return letter;
 }
 
-static int write_bundle(uint64_t seed, uint64_t count, char only)
+/* Which cards are made. */
+struct choice {
+    uint64_t seed, from, count;
+    char only;                                  /* a temperament, or 0 for all */
+};
+
+static int write_bundle(struct choice choice)
 {
     static struct card_bytes bytes;
-    for (uint64_t i = 0; i < count; i++) {
+    for (uint64_t i = 0; i < choice.count; i++) {
         uint8_t length[WORD_BYTES];
-        make_card(seed, i, only, &bytes);
+        make_card(choice.seed, choice.from + i, choice.only, &bytes);
         put_word(length, (uint32_t)bytes.length);
         if (fwrite(length, 1, sizeof length, stdout) != sizeof length ||
             fwrite(bytes.at, 1, bytes.length, stdout) != bytes.length) {
@@ -507,16 +514,16 @@ static void print_counts(const struct counts *counts, uint64_t cards)
     print_instructions(counts);
 }
 
-static int print_stats(uint64_t seed, uint64_t cards, char only)
+static int print_stats(struct choice choice)
 {
     static struct counts counts;
     static struct card_bytes bytes;
-    for (uint64_t i = 0; i < cards; i++) {
-        char letter = make_card(seed, i, only, &bytes);
+    for (uint64_t i = 0; i < choice.count; i++) {
+        char letter = make_card(choice.seed, choice.from + i, choice.only, &bytes);
         counts.temperament[letter - letters[0]]++;
         count_card(&bytes, &counts);
     }
-    print_counts(&counts, cards);
+    print_counts(&counts, choice.count);
     return counts.disagreements == 0 ? 0 : 1;
 }
 
@@ -524,7 +531,7 @@ static int print_stats(uint64_t seed, uint64_t cards, char only)
 
 static int usage(void)
 {
-    fprintf(stderr, "usage: cards [--only a|b|c|d|e|f|g] [--stats] SEED N\n");
+    fprintf(stderr, "usage: cards [--only a|b|c|d|e|f|g] [--from I] [--stats] SEED N\n");
     return EXIT_TROUBLE;
 }
 
@@ -537,23 +544,26 @@ static int read_number(const char *text, uint64_t *number)
 
 int main(int argc, char **argv)
 {
-    char only = 0;
+    struct choice choice = {0, 0, 0, 0};
     int stats = 0;
     int i = 1;
-    uint64_t seed, count;
 
     for (; i < argc && strncmp(argv[i], "--", 2) == 0; i++) {
         if (strcmp(argv[i], "--stats") == 0) {
             stats = 1;
         } else if (strcmp(argv[i], "--only") == 0 && i + 1 < argc) {
-            only = argv[++i][0];
-            if (only == 0 || strchr(letters, only) == NULL)
+            choice.only = argv[++i][0];
+            if (choice.only == 0 || strchr(letters, choice.only) == NULL)
+                return usage();
+        } else if (strcmp(argv[i], "--from") == 0 && i + 1 < argc) {
+            if (!read_number(argv[++i], &choice.from))
                 return usage();
         } else {
             return usage();
         }
     }
-    if (argc - i != 2 || !read_number(argv[i], &seed) || !read_number(argv[i + 1], &count))
+    if (argc - i != 2 || !read_number(argv[i], &choice.seed) ||
+        !read_number(argv[i + 1], &choice.count))
         return usage();
-    return stats ? print_stats(seed, count, only) : write_bundle(seed, count, only);
+    return stats ? print_stats(choice) : write_bundle(choice);
 }

@@ -1,0 +1,67 @@
+// What the programs share that show what the machines did: text on standard output, the lengths of a card and of the buffers,
+// and the two words of a double word.
+ghost use mathlib.Core.Path.{_≡_};
+ghost use Prim.Native.Nat.{_/_, _%_, _^_};
+use libc::STDOUT_FILENO;
+use machine::Machine;
+
+// Room for a card: one byte more than the longest that loads, 292 + 4 x 2,048. What a longer card has past it cannot change
+// the answer: proofs/Longer.antt of judge.
+pub const ROOM: usize = 8485;
+
+// The words of a buffer of code or data.
+pub const WORDS: usize = Machine::LONGEST as usize;
+
+// The general registers, and as many special ones.
+pub const REGISTERS: usize = 32;
+
+// What the upper word of a double word is worth: 2^32.
+const UPPER: u64 = 4294967296;
+
+pub fn put(text: &[u8]) {
+    io::write_all(STDOUT_FILENO, text);
+}
+
+// In decimal.
+pub fn put_number(n: u32) {
+    io::print_decimal(STDOUT_FILENO, n as u64);
+}
+
+// Eight capital hex digits.
+pub fn put_word(word: u32) {
+    let digits = [
+        digit(word >> 28),
+        digit(word >> 24),
+        digit(word >> 20),
+        digit(word >> 16),
+        digit(word >> 12),
+        digit(word >> 8),
+        digit(word >> 4),
+        digit(word),
+    ];
+    put(&digits);
+}
+
+// The capital hex digit of the low four bits.
+fn digit(n: u32) -> u8 {
+    let low = (n % 16) as u8;
+    if low < 10 {
+        b'0' + low
+    } else {
+        b'A' + (low - 10)
+    }
+}
+
+// The word at the lower address of a double word.
+pub fn lower(double: u64) -> u32
+    ensures { λ r. ⌜ r ≡ double % 2 ^ 32 ⌝ }
+{
+    (double % UPPER) as u32
+}
+
+// The word at the higher address of a double word.
+pub fn upper(double: u64) -> u32
+    ensures { λ r. ⌜ r ≡ double / 2 ^ 32 ⌝ }
+{
+    (double / UPPER) as u32
+}
