@@ -14,7 +14,7 @@ fail() {
 card_as_input() {
     [ $# -le 1 ] || fail "usage: $0 [CARD], '-' or none for standard input"
     [ "${1:--}" != - ] || return 0
-    [ -f "$1" ] && [ -r "$1" ] || fail "no such file: $1"
+    [ -f "$1" ] && [ -r "$1" ] || fail "no file that can be read: $1"
     exec <"$1"
 }
 

@@ -1,11 +1,11 @@
 // A case: a step or a run of a record, and the line that says what came of it: its name, the answer, the counters, and
 // whatever else is not as it was.
-use crate::output::put;
-use crate::output::put_number;
-use crate::output::put_word;
 use assembler::Outcome;
 use assembler::Verdict;
 use machine::Machine;
+use show::put;
+use show::put_number;
+use show::put_word;
 
 // A run of one word, the others being nop.
 pub fn word_line(name: &[u8], machine: Machine, word: u32) {

@@ -4,7 +4,6 @@ mod by_hand;
 mod instructions;
 mod limits;
 mod lines;
-mod output;
 mod records;
 mod refusals;
 mod registers;

@@ -76,7 +76,7 @@ fn put_verdict(verdict: Verdict) {
 
 fn put_named(name: &[u8], number: u32) {
     put(name);
-    put_number(number);
+    put_number(number as u64);
 }
 
 fn put_vamp(machine: Machine, before: [u64; DOUBLE_WORDS]) {

@@ -6,7 +6,7 @@ ghost use Rattle.machine.specs.Record.{LONGEST};
 ghost use Rattle.card.specs.Card.{DOUBLES};
 ghost use Rattle.assembler.specs.Runs.{verdictAnswer};
 ghost use Rattle.judge.specs.Judging.{answerOf, ruled, judging};
-ghost use Rattle.judge.specs.Line.{lineOf, textOf};
+ghost use Rattle.judge.specs.Line.{lineOf, textOf, hex as Line·hex};
 
 mod digits;
 mod lines;
@@ -16,6 +16,7 @@ use assembler::Verdict;
 use assembler::run;
 use card::Answer;
 use card::load;
+use digits::digit;
 pub use lines::Line;
 use lines::accepted;
 use lines::refused;
@@ -78,4 +79,20 @@ pub fn line(ruling: Ruling) -> Line
         Ruling::Accepted(steps, dpc) => accepted(steps, dpc),
         Ruling::Violation(number, step, dpc, word) => violation(number, step, dpc, word),
     }
+}
+
+// The eight capital hex digits of a word.
+pub fn hex(word: u32) -> [u8; 8]
+    ensures { λ r. ⌜ r ≡ Line·hex word ⌝ }
+{
+    [
+        digit(word, 16, 7),
+        digit(word, 16, 6),
+        digit(word, 16, 5),
+        digit(word, 16, 4),
+        digit(word, 16, 3),
+        digit(word, 16, 2),
+        digit(word, 16, 1),
+        digit(word, 16, 0),
+    ]
 }

@@ -1,7 +1,8 @@
-// What the programs share that show what the machines did: text on standard output, the lengths of a card and of the buffers,
-// and the two words of a double word.
+// What the programs share that show what was read and done: text and numbers on standard output, the lengths of a card and of
+// the buffers, and the two words of a double word.
 ghost use mathlib.Core.Path.{_≡_};
 ghost use Prim.Native.Nat.{_/_, _%_, _^_};
+use judge::hex;
 use libc::STDOUT_FILENO;
 use machine::Machine;
 
@@ -23,33 +24,20 @@ pub fn put(text: &[u8]) {
 }
 
 // In decimal.
-pub fn put_number(n: u32) {
-    io::print_decimal(STDOUT_FILENO, n as u64);
+pub fn put_number(n: u64) {
+    io::print_decimal(STDOUT_FILENO, n);
 }
 
 // Eight capital hex digits.
 pub fn put_word(word: u32) {
-    let digits = [
-        digit(word >> 28),
-        digit(word >> 24),
-        digit(word >> 20),
-        digit(word >> 16),
-        digit(word >> 12),
-        digit(word >> 8),
-        digit(word >> 4),
-        digit(word),
-    ];
+    let digits = hex(word);
     put(&digits);
 }
 
-// The capital hex digit of the low four bits.
-fn digit(n: u32) -> u8 {
-    let low = (n % 16) as u8;
-    if low < 10 {
-        b'0' + low
-    } else {
-        b'A' + (low - 10)
-    }
+// Two capital hex digits, of the low eight bits.
+pub fn put_byte(n: u32) {
+    let digits = hex(n);
+    put(&digits[6..8]);
 }
 
 // The word at the lower address of a double word.

@@ -1,11 +1,11 @@
 // All 58 instructions in document 01's order, with ones in every field that is not used. RD is 3, RS1 1, RS2 2, SA 4 and the
 // immediate -4; a load or store has RS1 2 and the immediate -3.
 use crate::lines::laid_run;
-use crate::output::put;
-use crate::output::put_word;
 use crate::records::record;
 use crate::records::with_special;
 use machine::Machine;
+use show::put;
+use show::put_word;
 
 pub(crate) fn all() {
     let mut n: usize = 0;

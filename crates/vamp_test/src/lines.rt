@@ -1,10 +1,10 @@
 // A case: a step or a run of a record, and the line that says what came of it: its name, the answer, the counters, and
 // whatever else is not as it was.
 use crate::memory::laid;
-use crate::output::put;
-use crate::output::put_number;
-use crate::output::put_word;
 use machine::Machine;
+use show::put;
+use show::put_number;
+use show::put_word;
 use vamp::Answer;
 
 // A run of one step of a word.

@@ -6,7 +6,6 @@ mod instructions;
 mod lines;
 mod memory;
 mod orders;
-mod output;
 mod overflows;
 mod records;
 mod refusals;

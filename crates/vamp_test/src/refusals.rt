@@ -5,12 +5,12 @@ use crate::lines::lent_step;
 use crate::lines::numbered_line;
 use crate::lines::run_line;
 use crate::lines::word_line;
-use crate::output::put;
 use crate::records::at;
 use crate::records::record;
 use crate::records::with_register;
 use crate::records::with_special;
 use machine::Machine;
+use show::put;
 
 // addi r1,r0,5.
 const GO: u32 = 0x24010005;

@@ -3,9 +3,9 @@
 use crate::lines::lent_run;
 use crate::memory::lay;
 use crate::memory::place;
-use crate::output::put;
 use crate::records::at;
 use crate::records::record;
+use show::put;
 
 // The number, and where it stands: after an array of 1,020 words behind the code.
 const NUMBER: u32 = 453;

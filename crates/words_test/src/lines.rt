@@ -1,7 +1,7 @@
 // The lines: `made WORD TEXT` and `read WORD TEXT`, with 14 for a word that is not made and 23 for the text of an illegal one.
-use crate::output::put;
-use crate::output::put_word;
 use crate::text::put_text;
+use show::put;
+use show::put_word;
 use words::Instruction;
 use words::Made;
 use words::Reading;

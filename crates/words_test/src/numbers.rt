@@ -1,8 +1,8 @@
 // All opcodes but 00, with the other bits zero, and all functions under opcode 00: the mnemonic of each, or 23.
 ghost use Prim.Native.Nat.{_<_};
-use crate::output::put;
-use crate::output::put_byte;
 use crate::text::put_mnemonic;
+use show::put;
+use show::put_byte;
 use words::Reading;
 use words::read;
 

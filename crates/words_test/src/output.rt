@@ -1,48 +1,20 @@
-// Bytes and numbers on standard output.
-use libc::STDOUT_FILENO;
+// The numbers of operands on standard output, in decimal.
+use show::put;
+use show::put_number;
 
-pub fn put(bytes: &[u8]) {
-    io::write_all(STDOUT_FILENO, bytes);
-}
-
-// In decimal.
 pub fn put_natural(n: u8) {
-    io::print_decimal(STDOUT_FILENO, n as u64);
+    put_number(n as u64);
 }
 
-// In decimal, with a sign where it is below 0.
+// With a sign where it is below 0.
 pub fn put_whole(n: i32) {
     if n < 0 {
         put(b"-");
     }
-    io::print_decimal(STDOUT_FILENO, magnitude(n));
+    put_number(magnitude(n));
 }
 
 // Without its sign. One is added last, for the sake of the least number, whose negation no i32 holds.
 fn magnitude(n: i32) -> u64 {
     if n < 0 { (-1 - n) as u64 + 1 } else { n as u64 }
-}
-
-// Eight capital hex digits.
-pub fn put_word(word: u32) {
-    put_byte(word >> 24);
-    put_byte(word >> 16);
-    put_byte(word >> 8);
-    put_byte(word);
-}
-
-// Two capital hex digits, of the low eight bits.
-pub fn put_byte(n: u32) {
-    let digits = [digit(n >> 4), digit(n)];
-    put(&digits);
-}
-
-// The capital hex digit of the low four bits.
-fn digit(n: u32) -> u8 {
-    let low = (n % 16) as u8;
-    if low < 10 {
-        b'0' + low
-    } else {
-        b'A' + (low - 10)
-    }
 }

@@ -1,7 +1,7 @@
 // An instruction as text: mnemonic and operands in the syntax of tables 1.2 to 1.4.
-use crate::output::put;
 use crate::output::put_natural;
 use crate::output::put_whole;
+use show::put;
 use words::Arithmetic;
 use words::Comparison;
 use words::Instruction;
