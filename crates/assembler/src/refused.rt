@@ -9,17 +9,14 @@ use machine::refusals::overlaps;
 use machine::refusals::past_memory;
 use machine::refusals::wrong_count;
 
-// The length of each buffer, in words.
-const LENGTH: usize = 1024;
-
 // The number of the refusal that a step answers, or 0.
 pub(crate) fn of_step(machine: Machine, code: usize, words: usize) -> u32
     ensures { λ r. ⌜ r ≡ stepRefusal machine code words ⌝ }
 {
-    if code != LENGTH {
+    if code != Machine::WORDS {
         return 1;
     }
-    if words != LENGTH {
+    if words != Machine::WORDS {
         return 1;
     }
     if wrong_count(machine) {

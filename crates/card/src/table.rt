@@ -16,11 +16,6 @@ use machine::refusals::overlaps;
 use machine::refusals::past_memory;
 use machine::refusals::wrong_count;
 
-// The lengths of the lent buffers.
-const WORDS: usize = Machine::LONGEST as usize;
-
-const DOUBLES: usize = 2048;
-
 // The number of the first test that holds, 0 where none does.
 pub(crate) fn judge(card: &[u8], code: usize, words: usize, memory: usize) -> u32
     ensures { λ r. ⌜ r ≡ refusal (now (card .entry)) code words memory ⌝ }
@@ -75,13 +70,13 @@ fn judge_record(card: &[u8], machine: Machine) -> u32
 fn wrong_length(code: usize, words: usize, memory: usize) -> bool
     ensures { λ r. ⌜ r ≡ wrongLength code words memory ⌝ }
 {
-    if code != WORDS {
+    if code != Machine::WORDS {
         return true;
     }
-    if words != WORDS {
+    if words != Machine::WORDS {
         return true;
     }
-    memory != DOUBLES
+    memory != Machine::DOUBLE_WORDS
 }
 
 // 3: wrong mark.

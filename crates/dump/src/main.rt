@@ -10,14 +10,12 @@ use judge::line;
 use libc::STDIN_FILENO;
 use machine::Machine;
 use show::ROOM;
-use show::WORDS;
 use show::put;
 use show::put_number;
 use show::put_word;
 use states::put_changes;
 use states::put_memory_changes;
 use states::put_registers;
-use vamp::DOUBLE_WORDS;
 use vamp::Ran;
 
 fn main() {
@@ -27,9 +25,9 @@ fn main() {
 
 fn dump(card: &mut [u8]) {
     let n = io::read_full(STDIN_FILENO, card);
-    let mut code = [0u32; WORDS];
-    let mut words = [0u32; WORDS];
-    let mut memory = [0u64; DOUBLE_WORDS];
+    let mut code = [0u32; Machine::WORDS];
+    let mut words = [0u32; Machine::WORDS];
+    let mut memory = [0u64; Machine::DOUBLE_WORDS];
     let loaded = load(&card[..n], &mut code, &mut words, &mut memory);
     let answer = loaded.answer;
     let machine = loaded.machine;
@@ -50,7 +48,7 @@ fn put_refused(number: u32) {
     put(&bytes[..len]);
 }
 
-fn put_assembler(machine: Machine, code: [u32; WORDS], before: [u32; WORDS]) {
+fn put_assembler(machine: Machine, code: [u32; Machine::WORDS], before: [u32; Machine::WORDS]) {
     let mut words = before;
     let outcome = assembler::run(machine, &code, &mut words);
     let verdict = outcome.verdict;
@@ -79,7 +77,7 @@ fn put_named(name: &[u8], number: u32) {
     put_number(number as u64);
 }
 
-fn put_vamp(machine: Machine, before: [u64; DOUBLE_WORDS]) {
+fn put_vamp(machine: Machine, before: [u64; Machine::DOUBLE_WORDS]) {
     let mut memory = before;
     let ran = vamp::run(machine, &mut memory, machine.limit);
     let after = ran.machine;

@@ -1,13 +1,11 @@
 // The state of a machine as text: its counters, its registers and the words that differ from those it started with.
 use machine::Machine;
 use show::REGISTERS;
-use show::WORDS;
 use show::lower;
 use show::put;
 use show::put_word;
 use show::upper;
 use std::num::wrapping_add_u32;
-use vamp::DOUBLE_WORDS;
 
 pub(crate) fn put_registers(machine: Machine) {
     put(b"dpc ");
@@ -37,10 +35,10 @@ fn put_value(value: u32) {
 }
 
 // The words of a region from `start` on. Past the card's words both buffers are zero, so that no line comes of these.
-pub(crate) fn put_changes(start: u32, before: [u32; WORDS], after: [u32; WORDS]) {
+pub(crate) fn put_changes(start: u32, before: [u32; Machine::WORDS], after: [u32; Machine::WORDS]) {
     let mut address = start;
     let mut i = 0;
-    while i < WORDS {
+    while i < Machine::WORDS {
         put_change(address, before[i], after[i]);
         address = wrapping_add_u32(address, 4);
         i += 1;
@@ -48,10 +46,13 @@ pub(crate) fn put_changes(start: u32, before: [u32; WORDS], after: [u32; WORDS])
 }
 
 // All words of VAMP memory.
-pub(crate) fn put_memory_changes(before: [u64; DOUBLE_WORDS], after: [u64; DOUBLE_WORDS]) {
+pub(crate) fn put_memory_changes(
+    before: [u64; Machine::DOUBLE_WORDS],
+    after: [u64; Machine::DOUBLE_WORDS],
+) {
     let mut address = 0;
     let mut i = 0;
-    while i < DOUBLE_WORDS {
+    while i < Machine::DOUBLE_WORDS {
         put_double_change(address, before[i], after[i]);
         address = wrapping_add_u32(address, 8);
         i += 1;

@@ -21,6 +21,7 @@ pub use lines::Line;
 use lines::accepted;
 use lines::refused;
 use lines::violation;
+use machine::Machine;
 
 // What is said of a card.
 pub enum Ruling {
@@ -36,9 +37,9 @@ pub enum Ruling {
 pub fn judge(card: &[u8]) -> Ruling
     ensures { λ r. ⌜ answerOf r ≡ judging (now (card .entry)) ⌝ }
 {
-    let mut code = [0u32; 1024];
-    let mut words = [0u32; 1024];
-    let mut memory = [0u64; 2048];
+    let mut code = [0u32; Machine::WORDS];
+    let mut words = [0u32; Machine::WORDS];
+    let mut memory = [0u64; Machine::DOUBLE_WORDS];
     judge_in(card, &mut code, &mut words, &mut memory)
 }
 

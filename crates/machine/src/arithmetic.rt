@@ -10,12 +10,25 @@ use words::Shift;
 // The lowest word that stands for a number below nothing.
 const SIGN: u32 = 2147483648;
 
+// The numbers that a word and its half can hold, 2^32 and 2^16.
+const RANGE: u64 = 4294967296;
+
+const HALF_RANGE: u32 = 65536;
+
+// The last word.
+const LAST: u32 = 4294967295;
+
+// The same numbers in the types that they are counted with.
+const RANGE_SIGNED: i64 = RANGE as i64;
+
+const SIGN_WIDE: u64 = SIGN as u64;
+
 // The word of a whole number.
 pub(crate) fn sext_of(imm: i32) -> u32
     ensures { λ r. ⌜ r ≡ sext imm ⌝ }
 {
-    let lifted = imm as i64 + 4294967296;
-    (lifted as u64 % 4294967296) as u32
+    let lifted = imm as i64 + RANGE_SIGNED;
+    (lifted as u64 % RANGE) as u32
 }
 
 // Whether a is less than b as numbers in two's complement.
@@ -50,7 +63,7 @@ fn copying(x: u32, places: u32) -> u32
     if x < SIGN {
         x >> places
     } else {
-        4294967295 - ((4294967295 - x) >> places)
+        LAST - ((LAST - x) >> places)
     }
 }
 
@@ -58,7 +71,7 @@ fn copying(x: u32, places: u32) -> u32
 pub(crate) fn high_of(x: u32) -> u32
     ensures { λ r. ⌜ r ≡ high x ⌝ }
 {
-    (x % 65536) * 65536
+    (x % HALF_RANGE) * HALF_RANGE
 }
 
 // 1 where the comparison holds, else 0.
@@ -92,7 +105,7 @@ pub(crate) fn difference(a: u32, b: u32) -> u32
 pub(crate) fn sum_beyond(a: u32, b: u32) -> bool
     ensures { λ r. ⌜ r ≡ beyond (integer a +ℤ integer b) ⌝ }
 {
-    apart(lift(a) + lift(b), 4294967296)
+    apart(lift(a) + lift(b), RANGE)
 }
 
 // Whether the signed difference lies beyond the words. Both sides are lifted by 2^31.
@@ -107,10 +120,10 @@ fn apart(x: u64, y: u64) -> bool
     requires { ⌜ (x ≤ 2 ^ 33) × (y ≤ 2 ^ 33) ⌝ }
     ensures { λ r. ⌜ r ≡ beyond (pos x -ℤ pos y) ⌝ }
 {
-    if x + 2147483648 < y {
+    if x + SIGN_WIDE < y {
         return true;
     }
-    y + 2147483648 <= x
+    y + SIGN_WIDE <= x
 }
 
 // The number that a word means, and 2^31.

@@ -77,6 +77,12 @@ impl Machine {
 
     // The longest code and the longest data, in words.
     pub const LONGEST: u32 = 1024;
+
+    // The length of a lent buffer of code or data in words, and of VAMP memory in double words.
+    pub const WORDS: usize = Machine::LONGEST as usize;
+
+    pub const DOUBLE_WORDS: usize = 2048;
+
     // Modelled memory, in bytes.
     pub const MEMORY: u64 = 16384;
 

@@ -4,13 +4,11 @@ use card::Answer;
 use card::load;
 use machine::Machine;
 use show::REGISTERS;
-use show::WORDS;
 use show::lower;
 use show::put;
 use show::put_word;
 use show::upper;
 use std::num::wrapping_add_u64;
-use vamp::DOUBLE_WORDS;
 use vamp::Ran;
 
 const START: u64 = 14695981039346656037;
@@ -22,9 +20,9 @@ const PRIME_LOW: u64 = 435;
 
 // Nothing for a card that is refused.
 pub(crate) fn put_digests(card: &[u8]) {
-    let mut code = [0u32; WORDS];
-    let mut words = [0u32; WORDS];
-    let mut memory = [0u64; DOUBLE_WORDS];
+    let mut code = [0u32; Machine::WORDS];
+    let mut words = [0u32; Machine::WORDS];
+    let mut memory = [0u64; Machine::DOUBLE_WORDS];
     let loaded = load(card, &mut code, &mut words, &mut memory);
     let answer = loaded.answer;
     let machine = loaded.machine;

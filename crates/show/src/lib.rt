@@ -1,17 +1,13 @@
-// What the programs share that show what was read and done: text and numbers on standard output, the lengths of a card and of
-// the buffers, and the two words of a double word.
+// What the programs share that show what was read and done: text and numbers on standard output, the room for a card, and the
+// two words of a double word.
 ghost use mathlib.Core.Path.{_≡_};
 ghost use Prim.Native.Nat.{_/_, _%_, _^_};
 use judge::hex;
 use libc::STDOUT_FILENO;
-use machine::Machine;
 
 // Room for a card: one byte more than the longest that loads, 292 + 4 x 2,048. What a longer card has past it cannot change
 // the answer: proofs/Longer.antt of judge.
 pub const ROOM: usize = 8485;
-
-// The words of a buffer of code or data.
-pub const WORDS: usize = Machine::LONGEST as usize;
 
 // The general registers, and as many special ones.
 pub const REGISTERS: usize = 32;

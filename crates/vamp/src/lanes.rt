@@ -12,6 +12,9 @@ ghost use Rattle.vamp.specs.Events.{odd};
 use words::LoadKind;
 use words::StoreKind;
 
+// The last word.
+const LAST: u32 = 4294967295;
+
 // lb and lh extend the sign, lbu and lhu by zeros.
 pub(crate) fn load(kind: LoadKind, memory: &[u64], address: u32) -> u32
     requires { ⌜ (length (now memory) ≡ DOUBLE-WORDS) × (address < MEMORY) ⌝ }
@@ -43,11 +46,7 @@ fn extended(h: u32, x: u32) -> u32
     requires { ⌜ (x < 2 * h) × (h ≤ 2 ^ 15) ⌝ }
     ensures { λ r. ⌜ r ≡ sext (signed h x) ⌝ }
 {
-    if x < h {
-        x
-    } else {
-        4294967295 - (2 * h - 1 - x)
-    }
+    if x < h { x } else { LAST - (2 * h - 1 - x) }
 }
 
 // The b bits at an address.

@@ -97,9 +97,6 @@ pub struct Ran {
     pub machine: Machine,
 }
 
-// The double words of VAMP memory.
-pub const DOUBLE_WORDS: usize = 2048;
-
 // One step: a sequence of one.
 pub fn step(machine: Machine, memory: &mut [u64]) -> Stepped
     ensures { λ r. ⌜ (answered (r .answer), r .machine, now (memory .exit)) ≡ stepping machine (now (memory .entry)) ⌝ }
@@ -117,7 +114,7 @@ pub fn step(machine: Machine, memory: &mut [u64]) -> Stepped
 pub fn run(machine: Machine, memory: &mut [u64], steps: u32) -> Ran
     ensures { λ r. ⌜ (r .steps, answered (r .answer), r .masked, r .machine, now (memory .exit)) ≡ running machine (now (memory .entry)) steps ⌝ }
 {
-    if memory.len() != DOUBLE_WORDS {
+    if memory.len() != Machine::DOUBLE_WORDS {
         return Ran {
             steps: 0,
             answer: Answer::WrongLength,

@@ -2,13 +2,14 @@
 // costs. All that the machine works on comes from the card, so that the compiler knows none of it.
 use libc::STDIN_FILENO;
 use libc::STDOUT_FILENO;
+use machine::Machine;
 
 fn main() {
     let mut bytes = io::buffer();
     let n = io::read_full(STDIN_FILENO, &mut bytes);
-    let mut code = [0u32; 1024];
-    let mut words = [0u32; 1024];
-    let mut memory = [0u64; 2048];
+    let mut code = [0u32; Machine::WORDS];
+    let mut words = [0u32; Machine::WORDS];
+    let mut memory = [0u64; Machine::DOUBLE_WORDS];
     let loaded = card::load(&bytes[..n], &mut code, &mut words, &mut memory);
     let machine = loaded.machine;
     let ran = vamp::run(machine, &mut memory, machine.limit);

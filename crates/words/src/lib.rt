@@ -4,6 +4,7 @@ ghost use mathlib.Core.Path.{_≡_};
 ghost use Rattle.words.specs.Words.{reading, readingAnswer, making, madeAnswer};
 
 mod fields;
+mod layout;
 mod maker;
 mod members;
 mod numbers;

@@ -20,6 +20,7 @@ immediate-spec =
     (λ c. search needs)
     (λ c. search needs)
     (λ c. search needs)
+    (λ c. search needs)
     (λ c κs. rw (kept (c .before .before .before .before .args .imm) (c .before .before .before .before .fits .imm .sfits)) (let m = inside 32767 (c .before .before .before .before .args .imm) (rw (kept (c .before .before .before .before .args .imm) (c .before .before .before .before .fits .imm .sfits)) at (c .before .if3 .left)) (rw (kept (c .before .before .before .before .args .imm) (c .before .before .before .before .fits .imm .sfits)) at (c .if4 .left)) in (omega arith, omega arith)))
     (λ c. let m = c .modulo .ensures .1 in omega arith)
     (λ c. simp (lt-ltb _ _ (c .before .before .before .before .if1 .left), lt-ltb _ _ (c .before .before .before .if2 .left), ranged-yes 32767 (c .before .before .before .before .before .args .imm) (inside 32767 (c .before .before .before .before .before .args .imm) (rw (kept (c .before .before .before .before .before .args .imm) (c .before .before .before .before .before .fits .imm .sfits)) at (c .before .before .if3 .left)) (rw (kept (c .before .before .before .before .before .args .imm) (c .before .before .before .before .before .fits .imm .sfits)) at (c .before .if4 .left))), c .modulo .ensures .0, kept (c .before .before .before .before .before .args .imm) (c .before .before .before .before .before .fits .imm .sfits))))
