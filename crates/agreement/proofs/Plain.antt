@@ -16,7 +16,8 @@ use Rattle.words.proofs.Signed.{false-true}
 use Rattle.machine.specs.declared.Effect.{Effect}
 use Rattle.machine.specs.declared.Effect.the-variants as does
 use Rattle.machine.specs.Effects.{meaning, computed}
-use Rattle.assembler.specs.Checks.{runs, runsRegister, runsImmediate, runsLoad, runsStore}
+use Rattle.words.specs.Words.{arithmeticRegisterNo, arithmeticImmediateNo, loadNo, storeNo}
+use Rattle.assembler.specs.Checks.{runs, runsOpcode, runsFunction}
 use Rattle.vamp.specs.Events.{trapped, overflowed}
 
 -- addo, subo, addio, subio
@@ -127,7 +128,7 @@ runs-plain (ShiftImmediate s rd r1 sa) e = refl
 runs-plain (ShiftRegister s rd r1 r2) e = refl
 runs-plain (Movs2i rd sa) e = refl
 runs-plain (Movi2s sa r1) e = refl
-runs-plain (ArithmeticRegister a rd r1 r2) e = no-sums runsRegister refl refl a e
+runs-plain (ArithmeticRegister a rd r1 r2) e = no-sums (λ (b : Arithmetic). runsFunction (arithmeticRegisterNo b)) refl refl a e
 runs-plain (Lhg rd r1) e = refl
 runs-plain (Clr rd) e = refl
 runs-plain (CompareRegister k rd r1 r2) e = refl
@@ -138,7 +139,7 @@ runs-plain (Trap imm) e = absurd (false-true e)
 runs-plain Rfe e = absurd (false-true e)
 runs-plain (Beqz r1 imm) e = refl
 runs-plain (Bnez r1 imm) e = refl
-runs-plain (ArithmeticImmediate a rd r1 imm) e = no-sums runsImmediate refl refl a e
+runs-plain (ArithmeticImmediate a rd r1 imm) e = no-sums (λ (b : Arithmetic). runsOpcode (arithmeticImmediateNo b)) refl refl a e
 runs-plain (Lhgi rd imm) e = refl
 runs-plain (Jr r1) e = refl
 runs-plain (Jalr r1) e = refl
@@ -157,14 +158,14 @@ computed-words And d x y = tt
 computed-words Or d x y = tt
 computed-words Xor d x y = tt
 
-load-word : (k : LoadKind) → runsLoad k ≡ true → k ≡ Lw
+load-word : (k : LoadKind) → runsOpcode (loadNo k) ≡ true → k ≡ Lw
 load-word Lb e = absurd (false-true e)
 load-word Lh e = absurd (false-true e)
 load-word Lw e = refl
 load-word Lbu e = absurd (false-true e)
 load-word Lhu e = absurd (false-true e)
 
-store-word : (k : StoreKind) → runsStore k ≡ true → k ≡ Sw
+store-word : (k : StoreKind) → runsOpcode (storeNo k) ≡ true → k ≡ Sw
 store-word Sb e = absurd (false-true e)
 store-word Sh e = absurd (false-true e)
 store-word Sw e = refl

@@ -1,3 +1,4 @@
+pub mod Twenty
 pub mod Tests
 pub mod Fold
 pub mod Refusals

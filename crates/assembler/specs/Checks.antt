@@ -5,102 +5,31 @@ use mathlib.Core.List.{List, [], _∷_}
 use mathlib.Core.Option.{Option, none, some}
 use lib.Dec.{eqb}
 use lib.ListN.{set}
-use Rattle.words.specs.Words.{reading}
+use Rattle.words.specs.Words.{Form, formR, formI, formJ, form, reading}
 use Rattle.words.specs.declared.Instruction.{Instruction}
-use Rattle.words.specs.declared.Instruction.the-variants.{ShiftImmediate, ShiftRegister, Movs2i, Movi2s, ArithmeticRegister, Lhg, Clr, CompareRegister, Set, J, Jal, Trap, Rfe, Beqz, Bnez, ArithmeticImmediate, Lhgi, Jr, Jalr, Clri, CompareImmediate, Seti, Load, Store}
-use Rattle.words.specs.declared.Shift.{Shift}
-use Rattle.words.specs.declared.Shift.the-variants.{Sll, Sla, Srl, Sra}
-use Rattle.words.specs.declared.Arithmetic.{Arithmetic}
-use Rattle.words.specs.declared.Arithmetic.the-variants.{Addo, Add, Subo, Sub, And, Or, Xor}
-use Rattle.words.specs.declared.Comparison.{Comparison}
-use Rattle.words.specs.declared.Comparison.the-variants.{Sgr, Seq, Sge, Sls, Sne, Sle}
-use Rattle.words.specs.declared.LoadKind.{LoadKind}
-use Rattle.words.specs.declared.LoadKind.the-variants.{Lb, Lh, Lw, Lbu, Lhu}
-use Rattle.words.specs.declared.StoreKind.{StoreKind}
-use Rattle.words.specs.declared.StoreKind.the-variants.{Sb, Sh, Sw}
 use Rattle.machine.specs.declared.Effect.{Effect}
 use Rattle.machine.specs.declared.Effect.the-variants as does
 use Rattle.machine.specs.declared.Region.{Region}
-use Rattle.machine.specs.Effects.{State, act, moved, illegal, access, askew, modeSet}
+use Rattle.machine.specs.Effects.{one-of, State, act, moved, illegal, access, askew, modeSet}
 use Rattle.machine.specs.Record.{holds, wordAt, first}
 
--- ---- What the assembler machine runs: lw, sw, movs2i, movi2s, add, sub, slli, srli, addi, lhgi, andi, ori, xori, sne, sgr, sge, beqz, bnez, jal, jr
+-- ---- The assembler machine runs only: lw, sw, movs2i, movi2s, add, sub, slli, srli, addi, lhgi, andi, ori, xori, sne, sgr, sge, beqz, bnez, jal, jr
 
--- slli, srli
-abbrev pub runsShift : Shift → Bool
-runsShift Sll = true
-runsShift Sla = false
-runsShift Srl = true
-runsShift Sra = false
+-- The opcodes of the I and J words among them: lw, sw, addi, lhgi, andi, ori, xori, beqz, bnez, jal, jr
+abbrev pub runsOpcode : ℕ → Bool
+runsOpcode n = one-of n (0x23 ∷ 0x2B ∷ 0x09 ∷ 0x0F ∷ 0x0C ∷ 0x0D ∷ 0x0E ∷ 0x04 ∷ 0x05 ∷ 0x03 ∷ 0x16 ∷ [])
 
--- add, sub
-abbrev pub runsRegister : Arithmetic → Bool
-runsRegister Addo = false
-runsRegister Add = true
-runsRegister Subo = false
-runsRegister Sub = true
-runsRegister And = false
-runsRegister Or = false
-runsRegister Xor = false
+-- The functions of the R words among them: movs2i, movi2s, add, sub, slli, srli, sne, sgr, sge
+abbrev pub runsFunction : ℕ → Bool
+runsFunction n = one-of n (0x10 ∷ 0x11 ∷ 0x21 ∷ 0x23 ∷ 0x00 ∷ 0x02 ∷ 0x2D ∷ 0x29 ∷ 0x2B ∷ [])
 
--- addi, andi, ori, xori
-abbrev pub runsImmediate : Arithmetic → Bool
-runsImmediate Addo = false
-runsImmediate Add = true
-runsImmediate Subo = false
-runsImmediate Sub = false
-runsImmediate And = true
-runsImmediate Or = true
-runsImmediate Xor = true
-
--- sgr, sge, sne
-abbrev pub runsCompare : Comparison → Bool
-runsCompare Sgr = true
-runsCompare Seq = false
-runsCompare Sge = true
-runsCompare Sls = false
-runsCompare Sne = true
-runsCompare Sle = false
-
--- lw
-abbrev pub runsLoad : LoadKind → Bool
-runsLoad Lb = false
-runsLoad Lh = false
-runsLoad Lw = true
-runsLoad Lbu = false
-runsLoad Lhu = false
-
--- sw
-abbrev pub runsStore : StoreKind → Bool
-runsStore Sb = false
-runsStore Sh = false
-runsStore Sw = true
+abbrev pub runsForm : Form → Bool
+runsForm (formR a b d s n) = runsFunction n
+runsForm (formI n a d m) = runsOpcode n
+runsForm (formJ n m) = runsOpcode n
 
 unfoldable pub runs : Instruction → Bool
-runs (ShiftImmediate s rd rs1 sa) = runsShift s
-runs (ShiftRegister s rd rs1 rs2) = false
-runs (Movs2i rd sa) = true
-runs (Movi2s sa rs1) = true
-runs (ArithmeticRegister a rd rs1 rs2) = runsRegister a
-runs (Lhg rd rs1) = false
-runs (Clr rd) = false
-runs (CompareRegister k rd rs1 rs2) = runsCompare k
-runs (Set rd) = false
-runs (J imm) = false
-runs (Jal imm) = true
-runs (Trap imm) = false
-runs Rfe = false
-runs (Beqz rs1 imm) = true
-runs (Bnez rs1 imm) = true
-runs (ArithmeticImmediate a rd rs1 imm) = runsImmediate a
-runs (Lhgi rd imm) = true
-runs (Jr rs1) = true
-runs (Jalr rs1) = false
-runs (Clri rd) = false
-runs (CompareImmediate k rd rs1 imm) = false
-runs (Seti rd) = false
-runs (Load k rd rs1 imm) = runsLoad k
-runs (Store k rs1 imm rd) = runsStore k
+runs i = runsForm (form i)
 
 -- ---- The tests, of a word w and its effect e
 

@@ -1,7 +1,7 @@
 -- Document 01, "Tests of a checked step" (its last paragraph): the run, and the refusals of a record.
 use Prim.Native.Nat.{ℕ, zero, suc}
 use mathlib.Core.Bool.{Bool, true, false, not, _||_}
-use mathlib.Core.List.{List, [], _∷_}
+use mathlib.Core.List.{List, [], _∷_, _++_}
 use lib.Dec.{eqb, ltb}
 use lib.ListN.{length}
 use Rattle.words.specs.Fields.{pick}
@@ -41,29 +41,23 @@ after c d code (suc k) p = after c d code k (next c d code p)
 abbrev pub wrongLength : ℕ → ℕ → Bool
 wrongLength code ws = not (eqb code LONGEST) || not (eqb ws LONGEST)
 
--- The tests of the refusal table that concern a record and the lengths of its buffers, in the table's order; a single step ignores test 12
-unfoldable pub stepRefusal : Machine → ℕ → ℕ → ℕ
-stepRefusal m code ws =
-    first
-    ((wrongLength code ws, 1)
+-- The tests of the refusal table that concern a record and the lengths of its buffers, in the table's order
+abbrev pub tests : Machine → ℕ → ℕ → List (Bool × ℕ)
+tests m code ws =
+    (wrongLength code ws, 1)
     ∷ (wrongCount m, 6)
     ∷ (oddStart m, 8)
     ∷ (pastMemory m, 9)
     ∷ (overlap m, 10)
     ∷ (notZero m, 11)
-    ∷ []) 0
+    ∷ []
+
+-- A record's single step ignores test 12
+unfoldable pub stepRefusal : Machine → ℕ → ℕ → ℕ
+stepRefusal m code ws = first (tests m code ws) 0
 
 unfoldable pub runRefusal : Machine → ℕ → ℕ → ℕ
-runRefusal m code ws =
-    first
-    ((wrongLength code ws, 1)
-    ∷ (wrongCount m, 6)
-    ∷ (oddStart m, 8)
-    ∷ (pastMemory m, 9)
-    ∷ (overlap m, 10)
-    ∷ (notZero m, 11)
-    ∷ (overLimit m, 12)
-    ∷ []) 0
+runRefusal m code ws = first (tests m code ws ++ (overLimit m, 12) ∷ []) 0
 
 -- Answer, record and data of a call that takes at most n steps, r being its refusal: refused, nothing changes
 unfoldable pub taking : ℕ → ℕ → Machine → List ℕ → List ℕ → (ℕ × List ℕ) × Machine × List ℕ

@@ -1,6 +1,7 @@
 // The twenty instructions that the assembler machine runs.
 ghost use mathlib.Core.Path.{_≡_};
-ghost use Rattle.assembler.specs.Checks.{runs, runsShift, runsRegister, runsImmediate, runsCompare, runsLoad, runsStore};
+ghost use Rattle.words.specs.Words.{shiftImmediateNo, arithmeticRegisterNo, arithmeticImmediateNo, compareRegisterNo, loadNo, storeNo};
+ghost use Rattle.assembler.specs.Checks.{runs, runsOpcode, runsFunction};
 use words::Arithmetic;
 use words::Comparison;
 use words::Instruction;
@@ -41,7 +42,7 @@ pub(crate) fn admits(instruction: Instruction) -> bool
 
 // slli, srli.
 fn shift(member: Shift) -> bool
-    ensures { λ r. ⌜ r ≡ runsShift member ⌝ }
+    ensures { λ r. ⌜ r ≡ runsFunction (shiftImmediateNo member) ⌝ }
 {
     match member {
         Shift::Sll => true,
@@ -53,7 +54,7 @@ fn shift(member: Shift) -> bool
 
 // add, sub.
 fn register(member: Arithmetic) -> bool
-    ensures { λ r. ⌜ r ≡ runsRegister member ⌝ }
+    ensures { λ r. ⌜ r ≡ runsFunction (arithmeticRegisterNo member) ⌝ }
 {
     match member {
         Arithmetic::Addo => false,
@@ -68,7 +69,7 @@ fn register(member: Arithmetic) -> bool
 
 // addi, andi, ori, xori.
 fn immediate(member: Arithmetic) -> bool
-    ensures { λ r. ⌜ r ≡ runsImmediate member ⌝ }
+    ensures { λ r. ⌜ r ≡ runsOpcode (arithmeticImmediateNo member) ⌝ }
 {
     match member {
         Arithmetic::Addo => false,
@@ -83,7 +84,7 @@ fn immediate(member: Arithmetic) -> bool
 
 // sgr, sge, sne.
 fn compare(member: Comparison) -> bool
-    ensures { λ r. ⌜ r ≡ runsCompare member ⌝ }
+    ensures { λ r. ⌜ r ≡ runsFunction (compareRegisterNo member) ⌝ }
 {
     match member {
         Comparison::Sgr => true,
@@ -97,7 +98,7 @@ fn compare(member: Comparison) -> bool
 
 // lw.
 fn load(member: LoadKind) -> bool
-    ensures { λ r. ⌜ r ≡ runsLoad member ⌝ }
+    ensures { λ r. ⌜ r ≡ runsOpcode (loadNo member) ⌝ }
 {
     match member {
         LoadKind::Lb => false,
@@ -110,7 +111,7 @@ fn load(member: LoadKind) -> bool
 
 // sw.
 fn store(member: StoreKind) -> bool
-    ensures { λ r. ⌜ r ≡ runsStore member ⌝ }
+    ensures { λ r. ⌜ r ≡ runsOpcode (storeNo member) ⌝ }
 {
     match member {
         StoreKind::Sb => false,

@@ -2,6 +2,7 @@ use borrow.Author.Needs.{needs}
 use Rattle.assembler.proofs.admitted.admits.Statement.{statement}
 use Rattle.assembler.proofs.admitted.admits.Tie as tie
 use Rattle.assembler.specs.Checks.{runs}
+use Rattle.assembler.proofs.Twenty.{no-shift, no-comparison}
 
 pub admits-spec : {M : Type 1} → statement M
 unfolding runs
@@ -39,7 +40,7 @@ admits-spec =
     (λ c. search needs)
     (λ c κs. search needs)
     (λ c. simp (c .before .before .instruction .given .1, c .shift .ensures))
-    (λ c. simp (c .enum-told .given .1))
+    (λ c. simp (c .enum-told .given .1, no-shift))
     (λ c. simp (c .enum-told2 .given .1))
     (λ c. simp (c .enum-told3 .given .1))
     (λ c. simp (c .before .before .instruction2 .given .1, c .register .ensures))
@@ -58,7 +59,7 @@ admits-spec =
     (λ c. simp (c .enum-told14 .given .1))
     (λ c. simp (c .enum-told15 .given .1))
     (λ c. simp (c .enum-told16 .given .1))
-    (λ c. simp (c .enum-told17 .given .1))
+    (λ c. simp (c .enum-told17 .given .1, no-comparison))
     (λ c. simp (c .enum-told18 .given .1))
     (λ c. simp (c .before .before .instruction5 .given .1, c .load .ensures))
     (λ c. simp (c .before .before .instruction6 .given .1, c .store .ensures)))
