@@ -8,8 +8,7 @@ use mathlib.Core.Bool.{Bool, true, false}
 use Rattle.words.specs.Fields.{pick}
 use mathlib.Core.Path.{_≡_, refl}
 use mathlib.Core.List.{List, [], _∷_}
-use Rattle.machine.specs.Record.{LONGEST, wrongCount, oddStart, pastMemory, overlap, idleSet, notZero, overLimit}
-use Rattle.vamp.specs.Memory.{DOUBLE-WORDS}
+use Rattle.machine.specs.Record.{DOUBLE-WORDS, LONGEST, wrongCount, oddStart, pastMemory, overlap, idleSet, notZero, overLimit}
 use Rattle.card.specs.Card.{Bytes, refusal, recordOf, wrongLength, tooShort, wrongMark, wrongVersion, reservedSet, wrongSize, tab, number16, number32}
 use Rattle.words.specs.Fields.{opcode, function, field, immediate16, immediate26}
 use Rattle.words.specs.Words.{reading}

@@ -13,10 +13,10 @@ use Rattle.words.specs.Fields.{pick}
 use Rattle.machine.specs.declared.Machine.{Machine}
 use Rattle.machine.specs.declared.Region.{Region}
 use Rattle.machine.specs.Effects.{State}
-use Rattle.machine.specs.Record.{MEMORY, holds, wordAt, image}
+use Rattle.machine.specs.Record.{DOUBLE-WORDS, MEMORY, holds, wordAt, image}
 use Rattle.machine.proofs.Bounds.{Words}
 use Rattle.machine.proofs.Regions.{Disjoint, holds-yes, image-code, image-data, image-else}
-use Rattle.vamp.specs.Memory.{DOUBLE-WORDS, at, put}
+use Rattle.vamp.specs.Memory.{at, put}
 use Rattle.vamp.proofs.Memory.{at-word, put-length}
 
 -- Where the regions of a record that was loaded lie

@@ -9,12 +9,11 @@ use lib.Dec.{eqb}
 use lib.ListN.{length}
 use Rattle.machine.specs.declared.Machine.{Machine}
 use Rattle.machine.specs.Effects.{State}
-use Rattle.machine.specs.Record.{LONGEST, stateOf, withState, wrongCount, oddStart, pastMemory, overlap, notZero, overLimit}
+use Rattle.machine.specs.Record.{DOUBLE-WORDS, LONGEST, stateOf, withState, wrongCount, oddStart, pastMemory, overlap, notZero, overLimit}
 use Rattle.assembler.specs.Checks.{violation}
 use Rattle.assembler.specs.Runs as assembler
 use Rattle.assembler.specs.Runs.{runs, taking, runRefusal}
 use Rattle.assembler.proofs.Theorems.{accepted-only, violation-only, accepts, stops-at}
-use Rattle.vamp.specs.Memory.{DOUBLE-WORDS}
 use Rattle.vamp.specs.Events.{stepped, interrupt, MISALIGNED, ILLEGAL}
 use Rattle.vamp.specs.Steps.{running, vstep, onward, Course, start}
 use Rattle.vamp.specs.Inner.{course}

@@ -18,7 +18,7 @@ use Rattle.machine.specs.declared.Effect.{Effect}
 use Rattle.machine.specs.declared.Effect.the-variants as does
 use Rattle.machine.specs.declared.Region.{Region}
 use Rattle.machine.specs.Effects.{State, act, moved, meaning, illegal, access, askew, modeSet, loadSize, storeSize}
-use Rattle.machine.specs.Record.{MEMORY, holds, wordAt, first}
+use Rattle.machine.specs.Record.{DOUBLE-WORDS, MEMORY, holds, wordAt, first}
 use Rattle.machine.proofs.Acts.{act-reads, legal-not, illegal-yes}
 use Rattle.machine.proofs.Bounds.{Words, Small, act-small, moved-words}
 use Rattle.machine.proofs.Regions.{holds-yes}
@@ -26,7 +26,7 @@ use Rattle.assembler.specs.Checks as drawing
 use Rattle.assembler.specs.Checks.{runs, outside, violation, next}
 use Rattle.assembler.proofs.Tests.{load-inside, store-inside, passes}
 use Rattle.assembler.proofs.Beyond.{left-length}
-use Rattle.vamp.specs.Memory.{DOUBLE-WORDS, at, loaded, put}
+use Rattle.vamp.specs.Memory.{at, loaded, put}
 use Rattle.vamp.specs.Memory as memory
 use Rattle.vamp.specs.Events.{stepped, interrupt, MISALIGNED, ILLEGAL, odd, beyond, accessPast, trapped, overflowed, overflowMasked, events, event}
 use Rattle.vamp.specs.Events as ship

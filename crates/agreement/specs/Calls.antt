@@ -3,9 +3,8 @@ use Prim.Native.Nat.{ℕ, _+_, _<_}
 use mathlib.Core.Path.{_≡_}
 use mathlib.Core.List.{List, [], _∷_}
 use Rattle.machine.specs.declared.Machine.{Machine}
-use Rattle.machine.specs.Record.{LONGEST, stateOf}
+use Rattle.machine.specs.Record.{DOUBLE-WORDS, LONGEST, stateOf}
 use Rattle.assembler.specs.Runs.{runs}
-use Rattle.vamp.specs.Memory.{DOUBLE-WORDS}
 use Rattle.vamp.specs.Events.{stepped, interrupt, MISALIGNED, ILLEGAL}
 use Rattle.vamp.specs.Steps.{running}
 use Rattle.card.specs.Card.{Bytes, refusal, recordOf, codeBuffer, dataBuffer, memoryBuffer}

@@ -6,9 +6,9 @@ use mathlib.Core.List.{List, [], _∷_}
 use lib.ListN.{getD}
 use Rattle.machine.specs.declared.Machine.{Machine}
 use Rattle.machine.specs.Effects.{State}
-use Rattle.machine.specs.Record.{MEMORY, LONGEST, holds, stateOf}
+use Rattle.machine.specs.Record.{DOUBLE-WORDS, MEMORY, LONGEST, holds, stateOf}
 use Rattle.assembler.specs.Runs as assembler
-use Rattle.vamp.specs.Memory.{DOUBLE-WORDS, at}
+use Rattle.vamp.specs.Memory.{at}
 use Rattle.vamp.specs.Events.{stepped, interrupt, MISALIGNED, ILLEGAL}
 use Rattle.vamp.specs.Steps as vamp
 use Rattle.card.specs.Card.{Bytes, refusal, recordOf, codeBuffer, dataBuffer, memoryBuffer}

@@ -3,8 +3,7 @@ use Prim.Native.Nat.{ℕ, _/_, _%_, _^_, _≤_}
 use mathlib.Core.Path.{_≡_}
 use mathlib.Core.List.{List, [], _∷_, _++_}
 use lib.ListN.{length, replicate}
-use Rattle.machine.specs.Record.{LONGEST}
-use Rattle.vamp.specs.Memory.{DOUBLE-WORDS}
+use Rattle.machine.specs.Record.{DOUBLE-WORDS, LONGEST}
 use Rattle.card.specs.Card.{Bytes, refusal, recordOf}
 use Rattle.agreement.specs.Demand.{checker}
 

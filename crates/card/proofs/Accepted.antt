@@ -9,9 +9,9 @@ use lib.Dec.{eqb}
 use lib.ListN.{length}
 use Rattle.words.specs.Fields.{pick}
 use Rattle.machine.specs.declared.Machine.{Machine}
-use Rattle.machine.specs.Record.{LONGEST, wrongCount, oddStart, pastMemory, overlap, notZero, overLimit}
+use Rattle.machine.specs.Record.{DOUBLE-WORDS, LONGEST, wrongCount, oddStart, pastMemory, overlap, notZero, overLimit}
 use Rattle.machine.proofs.Regions.{either-left, either-right, right-count}
-use Rattle.card.specs.Card.{BODY, DOUBLES, recordOf, wrongLength, tooShort, wrongMark, wrongVersion, reservedSet, wrongSize, refusal}
+use Rattle.card.specs.Card.{BODY, recordOf, wrongLength, tooShort, wrongMark, wrongVersion, reservedSet, wrongSize, refusal}
 use Rattle.card.specs.Work.{Room}
 
 -- No test of a record refuses m
@@ -72,13 +72,13 @@ module _ (card : List ℕ) (code words memory : ℕ) where
       rw (a .lengths, a .long, a .mark, a .version, a .reserved, a .passes .counts, a .size, a .passes .starts, a .passes .within, a .passes .apart, a .passes .zero, a .passes .limit)
 
 -- The lengths that the work relies on
-pub right-length : (code words memory : ℕ) → wrongLength code words memory ≡ false → (code ≡ LONGEST) × (words ≡ LONGEST) × (memory ≡ DOUBLES)
+pub right-length : (code words memory : ℕ) → wrongLength code words memory ≡ false → (code ≡ LONGEST) × (words ≡ LONGEST) × (memory ≡ DOUBLE-WORDS)
 unfolding wrongLength
 right-length code words memory e =
-    let a = either-left (not (eqb code LONGEST) || not (eqb words LONGEST)) (not (eqb memory DOUBLES)) e in (
+    let a = either-left (not (eqb code LONGEST) || not (eqb words LONGEST)) (not (eqb memory DOUBLE-WORDS)) e in (
       eqb-true code LONGEST (not-false (eqb code LONGEST) (either-left (not (eqb code LONGEST)) (not (eqb words LONGEST)) a)),
       eqb-true words LONGEST (not-false (eqb words LONGEST) (either-right (not (eqb code LONGEST)) (not (eqb words LONGEST)) a)),
-      eqb-true memory DOUBLES (not-false (eqb memory DOUBLES) (either-right (not (eqb code LONGEST) || not (eqb words LONGEST)) (not (eqb memory DOUBLES)) e)),
+      eqb-true memory DOUBLE-WORDS (not-false (eqb memory DOUBLE-WORDS) (either-right (not (eqb code LONGEST) || not (eqb words LONGEST)) (not (eqb memory DOUBLE-WORDS)) e)),
     )
 
 pub right-size : (n : ℕ) (m : Machine) → wrongSize n m ≡ false → n ≡ BODY + 4 * (m .code .words + m .«data» .words)

@@ -9,9 +9,9 @@ use lib.Dec.{eqb, ltb}
 use lib.ListN.{length, getD}
 use Rattle.words.specs.Fields.{pick}
 use Rattle.machine.specs.declared.Machine.{Machine}
-use Rattle.machine.specs.Record.{LONGEST, MEMORY, image}
+use Rattle.machine.specs.Record.{DOUBLE-WORDS, LONGEST, MEMORY, image}
 use Rattle.machine.proofs.Regions.{image-below}
-use Rattle.card.specs.Card.{Bytes, BODY, DOUBLES, tab, number32, numbers, recordOf, padded, codeBuffer, dataBuffer, double, memoryBuffer}
+use Rattle.card.specs.Card.{Bytes, BODY, tab, number32, numbers, recordOf, padded, codeBuffer, dataBuffer, double, memoryBuffer}
 use Rattle.card.proofs.Tab.{tab-length, tab-at, tab-below}
 
 -- The word that VAMP memory holds at an address
@@ -40,9 +40,9 @@ module _ (card : List ℕ) where
   unfolding dataBuffer
   data-length = tab-length _ LONGEST
 
-  pub memory-length : length (memoryBuffer card) ≡ DOUBLES
+  pub memory-length : length (memoryBuffer card) ≡ DOUBLE-WORDS
   unfolding memoryBuffer
-  memory-length = tab-length _ DOUBLES
+  memory-length = tab-length _ DOUBLE-WORDS
 
 -- ---- Code and data
 
@@ -122,14 +122,14 @@ module _ (card : List ℕ) (b : Bytes card) where
 
   pub memory-below : (i : ℕ) → getD (memoryBuffer card) i 0 < 2 ^ 64
   unfolding memoryBuffer double
-  memory-below = tab-below _ DOUBLES (2 ^ 64) (omega arith) (λ i. omega (arith, image-small (8 * i), image-small (8 * i + 4)))
+  memory-below = tab-below _ DOUBLE-WORDS (2 ^ 64) (omega arith) (λ i. omega (arith, image-small (8 * i), image-small (8 * i + 4)))
 
   -- ---- VAMP memory holds what the regions say
 
   pub memory-word : (a : ℕ) → a % 4 ≡ 0 → a < MEMORY → memoryAt (memoryBuffer card) a ≡ imageOf card a
   unfolding memoryBuffer double
   memory-word a e l =
-      ap (λ (x : ℕ). x / 2 ^ (8 * (a % 8)) % 2 ^ 32) (tab-at (double (recordOf card .code) (recordOf card .«data») (codeBuffer card) (dataBuffer card)) DOUBLES (a / 8) (omega arith))
+      ap (λ (x : ℕ). x / 2 ^ (8 * (a % 8)) % 2 ^ 32) (tab-at (double (recordOf card .code) (recordOf card .«data») (codeBuffer card) (dataBuffer card)) DOUBLE-WORDS (a / 8) (omega arith))
       ∙ by (eqb (a % 8) 0) refl
     where
       by : (t : Bool) → eqb (a % 8) 0 ≡ t → (imageOf card (8 * (a / 8)) + 2 ^ 32 * imageOf card (8 * (a / 8) + 4)) / 2 ^ (8 * (a % 8)) % 2 ^ 32 ≡ imageOf card a

@@ -8,11 +8,11 @@ use lib.Dec.{eqb}
 use lib.ListN.{length}
 use Rattle.words.proofs.Signed.{false-true}
 use Rattle.machine.specs.declared.Machine.{Machine}
-use Rattle.machine.specs.Record.{LONGEST, MEMORY, zeros, image}
+use Rattle.machine.specs.Record.{DOUBLE-WORDS, LONGEST, MEMORY, zeros, image}
 use Rattle.card.specs.declared.Answer.{Answer}
 use Rattle.card.specs.declared.Answer.the-variants as is
 use Rattle.card.specs.declared.Loaded.{Loaded}
-use Rattle.card.specs.Card.{Bytes, DOUBLES, refusal, answerOf, loaded, loading}
+use Rattle.card.specs.Card.{Bytes, refusal, answerOf, loaded, loading}
 use Rattle.card.proofs.Accepted.{Passes, accepted}
 use Rattle.card.proofs.Memory.{code-length, data-length, memory-length, memoryAt, memory-word}
 
@@ -75,7 +75,7 @@ module _ (card code ws memory : List ℕ) where
             absurd (false-true (ap (λ (t : Given). t .0 .1) (sym (loading-refused d) ∙ sym p) ∙ ap (λ (x : Answer). answerOf x .1) a))
 
     -- No later call refuses a loaded record, or a buffer for its length
-    pub loaded-passes : r .answer ≡ is.Loaded → Passes (r .machine) × (length code' ≡ LONGEST) × (length ws' ≡ LONGEST) × (length memory' ≡ DOUBLES)
+    pub loaded-passes : r .answer ≡ is.Loaded → Passes (r .machine) × (length code' ≡ LONGEST) × (length ws' ≡ LONGEST) × (length memory' ≡ DOUBLE-WORDS)
     loaded-passes a =
         let n : refused-by card code ws memory ≡ 0 = loaded-accepted a in
         let e = p ∙ loading-accepted n in (

@@ -7,7 +7,7 @@ use lib.ListN.{length, getD}
 use Rattle.words.specs.Fields.{pick}
 use Rattle.machine.specs.declared.Machine.{Machine}
 use Rattle.machine.specs.declared.Region.{Region}
-use Rattle.machine.specs.Record.{LONGEST, zeros, image, wrongCount, oddStart, pastMemory, overlap, notZero, overLimit, first}
+use Rattle.machine.specs.Record.{LONGEST, DOUBLE-WORDS, zeros, image, wrongCount, oddStart, pastMemory, overlap, notZero, overLimit, first}
 use Rattle.card.specs.declared.Answer.{Answer}
 use Rattle.card.specs.declared.Answer.the-variants.{Refused, Loaded}
 
@@ -52,13 +52,9 @@ BODY = 292
 
 -- ---- The refusals of a card; those of its record are in crate machine
 
--- VAMP memory, in double words
-abbrev pub DOUBLES : ℕ
-DOUBLES = 2048
-
 -- 1: a lent buffer has the wrong length: code 1,024 words, data 1,024 words, VAMP memory 2,048 double words
 unfoldable pub wrongLength : ℕ → ℕ → ℕ → Bool
-wrongLength code words memory = not (eqb code LONGEST) || not (eqb words LONGEST) || not (eqb memory DOUBLES)
+wrongLength code words memory = not (eqb code LONGEST) || not (eqb words LONGEST) || not (eqb memory DOUBLE-WORDS)
 
 -- 2: fewer than 292 bytes
 unfoldable pub tooShort : List ℕ → Bool
@@ -119,7 +115,7 @@ unfoldable pub double : Region → Region → List ℕ → List ℕ → ℕ → 
 double c d code ws i = image c d code ws (8 * i) + 2 ^ 32 * image c d code ws (8 * i + 4)
 
 unfoldable pub memoryBuffer : List ℕ → List ℕ
-memoryBuffer card = tab (double (recordOf card .code) (recordOf card .«data») (codeBuffer card) (dataBuffer card)) DOUBLES
+memoryBuffer card = tab (double (recordOf card .code) (recordOf card .«data») (codeBuffer card) (dataBuffer card)) DOUBLE-WORDS
 
 -- The record and the buffers of a card that is not refused
 abbrev pub loaded : List ℕ → Machine × List ℕ × List ℕ × List ℕ

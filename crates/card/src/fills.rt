@@ -3,8 +3,8 @@ ghost use mathlib.Core.Bool.{true};
 ghost use mathlib.Core.Path.{_≡_};
 ghost use Prim.Native.Nat.{_+_, _*_, _≤_, _<_};
 ghost use lib.ListN.{length};
-ghost use Rattle.machine.specs.Record.{image, holds, wordAt};
-ghost use Rattle.card.specs.Card.{DOUBLES, tab, padded, double, loaded};
+ghost use Rattle.machine.specs.Record.{DOUBLE-WORDS, image, holds, wordAt};
+ghost use Rattle.card.specs.Card.{tab, padded, double, loaded};
 ghost use Rattle.card.specs.Work.{Held, Room};
 use crate::fields::BODY;
 use crate::fields::number32;
@@ -55,7 +55,7 @@ fn word_of(card: &[u8], from: usize, count: u32, i: usize) -> u32
 
 // Fills VAMP memory, c and d being the code and the data region.
 fn fill_memory(c: Region, d: Region, code: &[u32], words: &[u32], memory: &mut [u64])
-    requires { ⌜ Held c (now code) ⌝ ∗ ⌜ Held d (now words) ⌝ ∗ ⌜ length (now memory) ≤ DOUBLES ⌝ }
+    requires { ⌜ Held c (now code) ⌝ ∗ ⌜ Held d (now words) ⌝ ∗ ⌜ length (now memory) ≤ DOUBLE-WORDS ⌝ }
     ensures { λ _. ⌜ now (memory .exit) ≡ tab (double c d (now (code .entry)) (now (words .entry))) (length (now (memory .entry))) ⌝ }
 {
     let mut i = 0;
@@ -67,7 +67,7 @@ fn fill_memory(c: Region, d: Region, code: &[u32], words: &[u32], memory: &mut [
 
 // Double word `i` of VAMP memory: the word at 8i below the word at 8i + 4.
 fn double_of(c: Region, d: Region, code: &[u32], words: &[u32], i: usize) -> u64
-    requires { ⌜ Held c (now code) ⌝ ∗ ⌜ Held d (now words) ⌝ ∗ ⌜ i < DOUBLES ⌝ }
+    requires { ⌜ Held c (now code) ⌝ ∗ ⌜ Held d (now words) ⌝ ∗ ⌜ i < DOUBLE-WORDS ⌝ }
     ensures { λ r. ⌜ r ≡ double c d (now (code .entry)) (now (words .entry)) i ⌝ }
 {
     let address = 8 * (i as u32);

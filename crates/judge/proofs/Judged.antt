@@ -11,11 +11,11 @@ use lib.ListN.{length, getD}
 use Rattle.machine.specs.declared.Machine.{Machine}
 use Rattle.machine.specs.declared.Region.{Region}
 use Rattle.machine.specs.Effects.{State}
-use Rattle.machine.specs.Record.{LONGEST, stateOf, withState}
+use Rattle.machine.specs.Record.{DOUBLE-WORDS, LONGEST, stateOf, withState}
 use Rattle.assembler.specs.Checks.{fetched, violation}
 use Rattle.assembler.specs.Runs.{running, runs, taking, runRefusal, told, after}
 use Rattle.assembler.proofs.Theorems.{Fine, First, ends, accepts, stops-at}
-use Rattle.card.specs.Card.{DOUBLES, recordOf, codeBuffer, dataBuffer}
+use Rattle.card.specs.Card.{recordOf, codeBuffer, dataBuffer}
 use Rattle.card.proofs.Accepted.{Passes, accepted}
 use Rattle.card.proofs.Memory.{code-length, data-length}
 use Rattle.judge.specs.declared.Ruling.{Ruling}
@@ -43,7 +43,7 @@ open-run m code ws e = rw e
 -- So a card that is not refused is answered by its steps, accepted with the DPC that they leave
 pub judged : (card : List ℕ) → refusedBy card ≡ 0 → judging card ≡ ruled (stepsOf card .0) (stepsOf card .1 .0 .dpc)
 judged card e =
-    let p = accepted card LONGEST LONGEST DOUBLES e .passes in
+    let p = accepted card LONGEST LONGEST DOUBLE-WORDS e .passes in
     let r = run-open (recordOf card) (length (codeBuffer card)) (length (dataBuffer card)) (code-length card) (data-length card) p in
     let s = open-run (recordOf card) (codeBuffer card) (dataBuffer card) r in
     sym (judging-accepted card e) ∙ ap (λ (t : (ℕ × List ℕ) × Machine × List ℕ). ruled (t .0) (t .1 .dpc)) s

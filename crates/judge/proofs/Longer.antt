@@ -9,9 +9,9 @@ use lib.Dec.{eqb, ltb}
 use lib.ListN.{length, getD, take}
 use lib.Seq.{getD-take, take-all, length-take-le}
 use Rattle.machine.specs.declared.Machine.{Machine}
-use Rattle.machine.specs.Record.{LONGEST, wrongCount}
+use Rattle.machine.specs.Record.{DOUBLE-WORDS, LONGEST, wrongCount}
 use Rattle.machine.proofs.Regions.{right-count}
-use Rattle.card.specs.Card.{BODY, DOUBLES, tab, number16, number32, numbers, recordOf, tooShort, wrongMark, wrongVersion, reservedSet, wrongSize, refusal}
+use Rattle.card.specs.Card.{BODY, tab, number16, number32, numbers, recordOf, tooShort, wrongMark, wrongVersion, reservedSet, wrongSize, refusal}
 use Rattle.card.proofs.Accepted.{accepted, right-size}
 use Rattle.judge.specs.Judging.{refusedBy, judging}
 use Rattle.judge.proofs.Ruled.{judging-refused}
@@ -36,7 +36,7 @@ beyond n m l e =
 
 long-refused : (card : List ℕ) → LONGEST-CARD < length card → refusedBy card ≡ 0 → ⊥
 long-refused card l e =
-    let a = accepted card LONGEST LONGEST DOUBLES e in
+    let a = accepted card LONGEST LONGEST DOUBLE-WORDS e in
     let s = right-size (length card) (recordOf card) (a .size) in
     let k = right-count (recordOf card) (a .passes .counts) in
     let x = k .1 in

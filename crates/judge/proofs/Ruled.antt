@@ -8,13 +8,13 @@ use lib.Dec.{eqb}
 use lib.ListN.{length}
 use Rattle.words.proofs.Signed.{false-true}
 use Rattle.machine.specs.declared.Machine.{Machine}
-use Rattle.machine.specs.Record.{LONGEST}
+use Rattle.machine.specs.Record.{DOUBLE-WORDS, LONGEST}
 use Rattle.assembler.specs.declared.Outcome.{Outcome}
 use Rattle.assembler.specs.Runs.{verdictAnswer, runs}
 use Rattle.card.specs.declared.Answer.{Answer}
 use Rattle.card.specs.declared.Answer.the-variants as is
 use Rattle.card.specs.declared.Loaded.{Loaded}
-use Rattle.card.specs.Card.{DOUBLES, refusal, answerOf, loading}
+use Rattle.card.specs.Card.{refusal, answerOf, loading}
 use Rattle.card.proofs.Results.{Meets, refused-by, loading-accepted, loading-refused, loaded-accepted}
 use Rattle.judge.specs.Judging.{ruled, refusedBy, ranOf, judging}
 
@@ -33,7 +33,7 @@ pub judging-accepted : (card : List ℕ) → refusedBy card ≡ 0 → ruled (ran
 unfolding judging
 judging-accepted card e = rw e
 
-module _ (card code ws memory : List ℕ) (c : length code ≡ LONGEST) (w : length ws ≡ LONGEST) (m : length memory ≡ DOUBLES) where
+module _ (card code ws memory : List ℕ) (c : length code ≡ LONGEST) (w : length ws ≡ LONGEST) (m : length memory ≡ DOUBLE-WORDS) where
   right : refused-by card code ws memory ≡ refusedBy card
   right = rw (c, w, m)
 

@@ -3,10 +3,10 @@ use Prim.Native.Nat.{ℕ}
 use mathlib.Core.List.{List, [], _∷_}
 use lib.Dec.{eqb}
 use Rattle.words.specs.Fields.{pick}
-use Rattle.machine.specs.Record.{LONGEST}
+use Rattle.machine.specs.Record.{DOUBLE-WORDS, LONGEST}
 use Rattle.machine.specs.declared.Machine.{Machine}
 use Rattle.assembler.specs.Runs.{runs}
-use Rattle.card.specs.Card.{DOUBLES, recordOf, codeBuffer, dataBuffer, refusal}
+use Rattle.card.specs.Card.{recordOf, codeBuffer, dataBuffer, refusal}
 use Rattle.judge.specs.declared.Ruling.{Ruling}
 use Rattle.judge.specs.declared.Ruling.the-variants.{Refused, Accepted, Violation}
 
@@ -28,7 +28,7 @@ ranOf card = runs (recordOf card) (codeBuffer card) (dataBuffer card)
 
 -- The number by which a card is refused, the buffers having the right lengths; 0 where it is not
 abbrev pub refusedBy : List ℕ → ℕ
-refusedBy card = refusal card LONGEST LONGEST DOUBLES
+refusedBy card = refusal card LONGEST LONGEST DOUBLE-WORDS
 
 -- A refused card is answered by its number, any other by its run
 unfoldable pub judging : List ℕ → ℕ × List ℕ

@@ -2,8 +2,7 @@
 ghost use Prim.Native.Nat.{_≤_};
 ghost use mathlib.Core.Path.{_≡_};
 ghost use lib.ListN.{length};
-ghost use Rattle.machine.specs.Record.{LONGEST};
-ghost use Rattle.card.specs.Card.{DOUBLES};
+ghost use Rattle.machine.specs.Record.{DOUBLE-WORDS, LONGEST};
 ghost use Rattle.assembler.specs.Runs.{verdictAnswer};
 ghost use Rattle.judge.specs.Judging.{answerOf, ruled, judging};
 ghost use Rattle.judge.specs.Line.{lineOf, textOf, hex as Line·hex};
@@ -45,7 +44,7 @@ pub fn judge(card: &[u8]) -> Ruling
 
 // The same, in buffers of the right lengths.
 fn judge_in(card: &[u8], code: &mut [u32], words: &mut [u32], memory: &mut [u64]) -> Ruling
-    requires { ⌜ length (now code) ≡ LONGEST ⌝ ∗ ⌜ length (now words) ≡ LONGEST ⌝ ∗ ⌜ length (now memory) ≡ DOUBLES ⌝ }
+    requires { ⌜ length (now code) ≡ LONGEST ⌝ ∗ ⌜ length (now words) ≡ LONGEST ⌝ ∗ ⌜ length (now memory) ≡ DOUBLE-WORDS ⌝ }
     ensures { λ r. ⌜ answerOf r ≡ judging (now (card .entry)) ⌝ }
 {
     let loaded = load(card, code, words, memory);

@@ -29,9 +29,12 @@ image c d code ws a = pick (holds c a) (wordAt c code a) (pick (holds d a) (word
 abbrev pub LONGEST : ℕ
 LONGEST = 1024
 
--- Modelled memory is bytes 0 to 16,383
+-- Modelled memory is bytes 0 to 16,383: 2,048 double words
 abbrev pub MEMORY : ℕ
 MEMORY = 16384
+
+abbrev pub DOUBLE-WORDS : ℕ
+DOUBLE-WORDS = 2048
 
 abbrev pub MOST-STEPS : ℕ
 MOST-STEPS = 1000000

@@ -8,8 +8,7 @@ use lib.Dec.{eqb}
 use lib.ListN.{length}
 use Rattle.words.specs.Fields.{pick}
 use Rattle.machine.specs.declared.Machine.{Machine}
-use Rattle.machine.specs.Record.{notZero, stateOf, withState}
-use Rattle.vamp.specs.Memory.{DOUBLE-WORDS}
+use Rattle.machine.specs.Record.{DOUBLE-WORDS, notZero, stateOf, withState}
 use Rattle.vamp.specs.Steps.{Vamp, Course, vstep, onward, start, refused, stepping, running}
 use Rattle.vamp.proofs.Onward.{onward-yes, onward-not, step-kept}
 

@@ -12,8 +12,8 @@ use Rattle.machine.specs.declared.Machine.{Machine}
 use Rattle.machine.specs.declared.Effect.{Effect}
 use Rattle.machine.specs.declared.Effect.the-variants as does
 use Rattle.machine.specs.Effects.{act}
-use Rattle.machine.specs.Record.{notZero, stateOf, withState}
-use Rattle.vamp.specs.Memory.{DOUBLE-WORDS, stored}
+use Rattle.machine.specs.Record.{DOUBLE-WORDS, notZero, stateOf, withState}
+use Rattle.vamp.specs.Memory.{stored}
 use Rattle.vamp.specs.Events.{fetched}
 use Rattle.vamp.specs.Steps.{Vamp, kept, vstep, after, stepping, running}
 use Rattle.vamp.proofs.Calls.{either}

@@ -12,8 +12,8 @@ use lib.ListN.{getD, set, length, length-set}
 use lib.Pow.{pow-pos, pow-add, shr-lt, shr-shr, high, low, field, mod-mod-pow, mod-pow-add}
 use lib.Seq.{getD-set-same, getD-set-other, set-out}
 use Rattle.words.specs.Fields.{pick}
-use Rattle.machine.specs.Record.{MEMORY}
-use Rattle.vamp.specs.Memory.{DOUBLE-WORDS, part, patch, at, put}
+use Rattle.machine.specs.Record.{DOUBLE-WORDS, MEMORY}
+use Rattle.vamp.specs.Memory.{part, patch, at, put}
 
 -- ---- One double word
 

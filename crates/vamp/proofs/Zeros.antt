@@ -8,9 +8,8 @@ use lib.Dec.{eqb}
 use lib.ListN.{length}
 use Rattle.machine.specs.declared.Machine.{Machine}
 use Rattle.machine.specs.Effects.{State, act}
-use Rattle.machine.specs.Record.{notZero, stateOf, withState}
+use Rattle.machine.specs.Record.{DOUBLE-WORDS, notZero, stateOf, withState}
 use Rattle.machine.proofs.Quiet.{Quiet, quiet-moved, quiet-record, record-quiet}
-use Rattle.vamp.specs.Memory.{DOUBLE-WORDS}
 use Rattle.vamp.specs.Events.{fetched, event}
 use Rattle.vamp.specs.Steps.{Vamp, Course, found, vstep, after, onward, start, stepping, running}
 use Rattle.vamp.proofs.Calls.{either}

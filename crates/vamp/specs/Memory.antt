@@ -9,10 +9,6 @@ use Rattle.words.specs.declared.StoreKind.{StoreKind}
 use Rattle.words.specs.declared.StoreKind.the-variants.{Sb, Sh, Sw}
 use Rattle.machine.specs.Rulings.{sext}
 
--- VAMP memory is 2,048 double words: modelled memory is bytes 0 to 16,383
-abbrev pub DOUBLE-WORDS : ℕ
-DOUBLE-WORDS = 2048
-
 -- ---- Any number of bits
 
 -- The b bits of a double word x from its byte k on

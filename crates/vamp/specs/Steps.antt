@@ -9,8 +9,8 @@ use Rattle.machine.specs.declared.Machine.{Machine}
 use Rattle.machine.specs.declared.Effect.{Effect}
 use Rattle.machine.specs.declared.Effect.the-variants as does
 use Rattle.machine.specs.Effects.{State, act, moved}
-use Rattle.machine.specs.Record.{first, notZero, stateOf, withState}
-use Rattle.vamp.specs.Memory.{DOUBLE-WORDS, loaded, stored}
+use Rattle.machine.specs.Record.{DOUBLE-WORDS, first, notZero, stateOf, withState}
+use Rattle.vamp.specs.Memory.{loaded, stored}
 use Rattle.vamp.specs.Events.{fetched, event, stepped, interrupt, past, mode, ILLEGAL, MISALIGNED, TRAP, OVERFLOW}
 use Rattle.vamp.specs.declared.Answer.{Answer}
 use Rattle.vamp.specs.declared.Answer.the-variants as says

@@ -1,8 +1,8 @@
 // A step and a sequence of steps, on the counters and the lent registers and memory.
+ghost use Rattle.machine.specs.Record.{DOUBLE-WORDS};
 ghost use mathlib.Core.Path.{_≡_};
 ghost use Prim.Native.Nat.{_+_, _^_, _<_};
 ghost use lib.ListN.{length};
-ghost use Rattle.vamp.specs.Memory.{DOUBLE-WORDS};
 ghost use Rattle.vamp.specs.Steps.{answered, taken, vstep, onward, start, reported};
 ghost use Rattle.vamp.specs.Inner.{parts, course, wordEvent};
 use crate::Answer;

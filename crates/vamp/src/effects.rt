@@ -1,9 +1,10 @@
 // What an effect asks of memory, after its events.
+ghost use Rattle.machine.specs.Record.{DOUBLE-WORDS};
 ghost use mathlib.Core.Path.{_≡_};
 ghost use lib.ListN.{length};
 ghost use Rattle.machine.specs.Effects.{loadSize, storeSize};
 ghost use Rattle.vamp.specs.Events.{odd};
-ghost use Rattle.vamp.specs.Memory.{DOUBLE-WORDS, loaded, stored};
+ghost use Rattle.vamp.specs.Memory.{loaded, stored};
 ghost use Rattle.vamp.specs.Steps.{answered, took};
 ghost use Rattle.vamp.specs.Inner.{accessEvent, touched};
 use crate::Answer;
