@@ -3,13 +3,10 @@ use judge::judge;
 use judge::line;
 use libc::STDIN_FILENO;
 use libc::STDOUT_FILENO;
-
-// One byte more than the longest card that loads, 292 + 4 x 2,048. What a longer input has past it cannot change the answer:
-// proofs/Longer.antt of judge.
-const MOST: usize = 8485;
+use show::ROOM;
 
 fn main() {
-    let mut card = [0u8; MOST];
+    let mut card = [0u8; ROOM];
     answer(&mut card);
 }
 
