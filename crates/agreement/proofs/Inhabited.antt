@@ -15,8 +15,8 @@ use Rattle.words.specs.Words.{reading}
 use Rattle.machine.specs.Rulings.{plus, sext}
 use Rattle.machine.specs.Effects.{act, moved, meaning, applied, register, put, putSpecial, access, askew, modeSet, illegal}
 use Rattle.machine.specs.Record.{wordAt}
-use Rattle.assembler.specs.Checks.{violation, next, found, left, outside, foreign, runs}
-use Rattle.assembler.specs.Runs.{running, after}
+use Rattle.checker.specs.Checks.{violation, next, found, left, outside, foreign, runs}
+use Rattle.checker.specs.Runs.{running, after}
 use Rattle.card.specs.Card.{codeBuffer, dataBuffer, padded}
 use Rattle.agreement.specs.Demand.{checker}
 use Rattle.agreement.specs.Examples.{Example, examples, Holds, Each}

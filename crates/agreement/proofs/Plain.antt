@@ -17,7 +17,7 @@ use Rattle.machine.specs.declared.Effect.{Effect}
 use Rattle.machine.specs.declared.Effect.the-variants as does
 use Rattle.machine.specs.Effects.{meaning, computed}
 use Rattle.words.specs.Words.{arithmeticRegisterNo, arithmeticImmediateNo, loadNo, storeNo}
-use Rattle.assembler.specs.Checks.{runs, runsOpcode, runsFunction}
+use Rattle.checker.specs.Checks.{runs, runsOpcode, runsFunction}
 use Rattle.vamp.specs.Events.{trapped, overflowed}
 
 -- addo, subo, addio, subio

@@ -10,10 +10,10 @@ use lib.ListN.{length}
 use Rattle.machine.specs.declared.Machine.{Machine}
 use Rattle.machine.specs.Effects.{State}
 use Rattle.machine.specs.Record.{DOUBLE-WORDS, LONGEST, stateOf, withState, wrongCount, oddStart, pastMemory, overlap, notZero, overLimit}
-use Rattle.assembler.specs.Checks.{violation}
-use Rattle.assembler.specs.Runs as assembler
-use Rattle.assembler.specs.Runs.{runs, taking, runRefusal}
-use Rattle.assembler.proofs.Theorems.{accepted-only, violation-only, accepts, stops-at}
+use Rattle.checker.specs.Checks.{violation}
+use Rattle.checker.specs.Runs as checked
+use Rattle.checker.specs.Runs.{runs, taking, runRefusal}
+use Rattle.checker.proofs.Theorems.{accepted-only, violation-only, accepts, stops-at}
 use Rattle.vamp.specs.Events.{stepped, interrupt, MISALIGNED, ILLEGAL}
 use Rattle.vamp.specs.Steps.{running, vstep, onward, Course, start}
 use Rattle.vamp.specs.Inner.{course}
@@ -38,7 +38,7 @@ module _ (card : List ℕ) (b : Bytes card) (ok : refusal card LONGEST LONGEST D
       rw (code-length card, data-length card, p .counts, p .starts, p .within, p .apart, p .zero, p .limit)
 
   outcome : (ℕ × List ℕ) × (State × List ℕ)
-  outcome = assembler.running (r .code) (r .«data») (codeBuffer card) 0 (r .limit) (stateOf r, dataBuffer card)
+  outcome = checked.running (r .code) (r .«data») (codeBuffer card) 0 (r .limit) (stateOf r, dataBuffer card)
 
   run-is : ran card ≡ (outcome .0, withState r (outcome .1 .0), outcome .1 .1)
   unfolding taking outcome

@@ -16,10 +16,10 @@ use Rattle.machine.specs.Effects.{State, act, illegal, askew}
 use Rattle.machine.specs.Record.{MEMORY, holds}
 use Rattle.machine.proofs.Acts.{word-reads, illegal-yes}
 use Rattle.machine.proofs.Regions.{holds-yes}
-use Rattle.assembler.specs.Checks.{runs, violation, next, fetched}
-use Rattle.assembler.specs.Runs.{after}
-use Rattle.assembler.proofs.Tests.{Passes, passes, foreign-runs, at-21, at-23, at-25}
-use Rattle.assembler.proofs.Theorems.{Fine}
+use Rattle.checker.specs.Checks.{runs, violation, next, fetched}
+use Rattle.checker.specs.Runs.{after}
+use Rattle.checker.proofs.Tests.{Passes, passes, foreign-runs, at-21, at-23, at-25}
+use Rattle.checker.proofs.Theorems.{Fine}
 use Rattle.vamp.specs.Events.{stepped, interrupt, MISALIGNED, ILLEGAL, event}
 use Rattle.vamp.specs.Events as ship
 use Rattle.vamp.specs.Steps.{vstep}

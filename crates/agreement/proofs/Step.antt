@@ -22,10 +22,10 @@ use Rattle.machine.specs.Record.{DOUBLE-WORDS, MEMORY, holds, wordAt, first}
 use Rattle.machine.proofs.Acts.{act-reads, legal-not, illegal-yes}
 use Rattle.machine.proofs.Bounds.{Words, Small, act-small, moved-words}
 use Rattle.machine.proofs.Regions.{holds-yes}
-use Rattle.assembler.specs.Checks as drawing
-use Rattle.assembler.specs.Checks.{runs, outside, violation, next}
-use Rattle.assembler.proofs.Tests.{load-inside, store-inside, passes}
-use Rattle.assembler.proofs.Beyond.{left-length}
+use Rattle.checker.specs.Checks as drawing
+use Rattle.checker.specs.Checks.{runs, outside, violation, next}
+use Rattle.checker.proofs.Tests.{load-inside, store-inside, passes}
+use Rattle.checker.proofs.Beyond.{left-length}
 use Rattle.vamp.specs.Memory.{at, loaded, put}
 use Rattle.vamp.specs.Memory as memory
 use Rattle.vamp.specs.Events.{stepped, interrupt, MISALIGNED, ILLEGAL, odd, beyond, accessPast, trapped, overflowed, overflowMasked, events, event}

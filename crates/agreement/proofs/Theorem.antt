@@ -9,9 +9,9 @@ use Rattle.machine.specs.declared.Machine.{Machine}
 use Rattle.machine.specs.Effects.{State}
 use Rattle.machine.specs.Record.{DOUBLE-WORDS, MEMORY, LONGEST, holds, stateOf, wordAt}
 use Rattle.machine.proofs.Regions.{right-count, even-starts, in-memory, apart-disjoint, holds-in, word-at, image-code, image-data, image-else}
-use Rattle.assembler.specs.Checks.{violation}
-use Rattle.assembler.specs.Runs.{after}
-use Rattle.assembler.proofs.Theorems.{Fine, accepted-only, violation-only}
+use Rattle.checker.specs.Checks.{violation}
+use Rattle.checker.specs.Runs.{after}
+use Rattle.checker.proofs.Theorems.{Fine, accepted-only, violation-only}
 use Rattle.vamp.specs.Memory.{at, part}
 use Rattle.vamp.specs.Events.{stepped, interrupt, MISALIGNED, ILLEGAL}
 use Rattle.vamp.specs.Steps as vamp

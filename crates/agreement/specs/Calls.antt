@@ -1,10 +1,10 @@
--- Demand 3 for the results of the public calls. `card::load`, `assembler::run` and `vamp::run` are promised equal to `loading`, `runs` and `running`, so this is what their callers see.
+-- Demand 3 for the results of the public calls. `card::load`, `checker::run` and `vamp::run` are promised equal to `loading`, `runs` and `running`, so this is what their callers see.
 use Prim.Native.Nat.{ℕ, _+_, _<_}
 use mathlib.Core.Path.{_≡_}
 use mathlib.Core.List.{List, [], _∷_}
 use Rattle.machine.specs.declared.Machine.{Machine}
 use Rattle.machine.specs.Record.{DOUBLE-WORDS, LONGEST, stateOf}
-use Rattle.assembler.specs.Runs.{runs}
+use Rattle.checker.specs.Runs.{runs}
 use Rattle.vamp.specs.Events.{stepped, interrupt, MISALIGNED, ILLEGAL}
 use Rattle.vamp.specs.Steps.{running}
 use Rattle.card.specs.Card.{Bytes, refusal, recordOf, codeBuffer, dataBuffer, memoryBuffer}

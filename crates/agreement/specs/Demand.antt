@@ -7,7 +7,7 @@ use lib.ListN.{getD}
 use Rattle.machine.specs.declared.Machine.{Machine}
 use Rattle.machine.specs.Effects.{State}
 use Rattle.machine.specs.Record.{DOUBLE-WORDS, MEMORY, LONGEST, holds, stateOf}
-use Rattle.assembler.specs.Runs as assembler
+use Rattle.checker.specs.Runs as checked
 use Rattle.vamp.specs.Memory.{at}
 use Rattle.vamp.specs.Events.{stepped, interrupt, MISALIGNED, ILLEGAL}
 use Rattle.vamp.specs.Steps as vamp
@@ -15,7 +15,7 @@ use Rattle.card.specs.Card.{Bytes, refusal, recordOf, codeBuffer, dataBuffer, m
 
 -- The assembler machine and the VAMP machine after n steps, both from what one load of the card gives
 abbrev pub drawing : List ℕ → ℕ → State × List ℕ
-drawing card n = assembler.after (recordOf card .code) (recordOf card .«data») (codeBuffer card) n (stateOf (recordOf card), dataBuffer card)
+drawing card n = checked.after (recordOf card .code) (recordOf card .«data») (codeBuffer card) n (stateOf (recordOf card), dataBuffer card)
 
 abbrev pub ship : List ℕ → ℕ → State × List ℕ
 ship card n = vamp.after n (stateOf (recordOf card), memoryBuffer card)
@@ -37,7 +37,7 @@ pub record Together (card : List ℕ) (n : ℕ) : Type 0 where
 
 -- What the checker answers for n steps of the card
 abbrev pub checker : List ℕ → ℕ → ℕ × List ℕ
-checker card n = assembler.running (recordOf card .code) (recordOf card .«data») (codeBuffer card) 0 n (drawing card 0) .0
+checker card n = checked.running (recordOf card .code) (recordOf card .«data») (codeBuffer card) 0 n (drawing card 0) .0
 
 -- For any card the loader accepts and any n up to its limit:
 pub record Stands (card : List ℕ) (n : ℕ) : Type 0 where

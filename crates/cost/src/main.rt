@@ -1,6 +1,6 @@
 // Runs the run card on standard input on the assembler machine and prints the steps taken, for tools/cost to count what
 // a step costs. All that the machine works on comes from the card, so that the compiler knows none of it.
-use assembler::Verdict;
+use checker::Verdict;
 use libc::STDIN_FILENO;
 use libc::STDOUT_FILENO;
 use machine::Machine;
@@ -12,7 +12,7 @@ fn main() {
     let mut words = [0u32; Machine::WORDS];
     let mut memory = [0u64; Machine::DOUBLE_WORDS];
     let loaded = card::load(&bytes[..n], &mut code, &mut words, &mut memory);
-    let outcome = assembler::run(loaded.machine, &code, &mut words);
+    let outcome = checker::run(loaded.machine, &code, &mut words);
     let verdict = outcome.verdict;
     io::print_decimal(STDOUT_FILENO, steps(verdict) as u64);
     io::write_all(STDOUT_FILENO, b"\n");

@@ -2,9 +2,9 @@
 // run ended, the counters, the registers, and the words that the run changed. `sim/simulate dump` writes the same text.
 mod states;
 
-use assembler::Verdict;
 use card::Answer;
 use card::load;
+use checker::Verdict;
 use judge::Ruling;
 use judge::line;
 use libc::STDIN_FILENO;
@@ -34,7 +34,7 @@ fn dump(card: &mut [u8]) {
     match answer {
         Answer::Refused(number) => put_refused(number),
         Answer::Loaded => {
-            put_assembler(machine, code, words);
+            put_checker(machine, code, words);
             put_vamp(machine, memory);
         }
     }
@@ -48,9 +48,9 @@ fn put_refused(number: u32) {
     put(&bytes[..len]);
 }
 
-fn put_assembler(machine: Machine, code: [u32; Machine::WORDS], before: [u32; Machine::WORDS]) {
+fn put_checker(machine: Machine, code: [u32; Machine::WORDS], before: [u32; Machine::WORDS]) {
     let mut words = before;
-    let outcome = assembler::run(machine, &code, &mut words);
+    let outcome = checker::run(machine, &code, &mut words);
     let verdict = outcome.verdict;
     let after = outcome.machine;
     put(b"assembler ");

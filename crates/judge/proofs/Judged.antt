@@ -12,9 +12,9 @@ use Rattle.machine.specs.declared.Machine.{Machine}
 use Rattle.machine.specs.declared.Region.{Region}
 use Rattle.machine.specs.Effects.{State}
 use Rattle.machine.specs.Record.{DOUBLE-WORDS, LONGEST, stateOf, withState}
-use Rattle.assembler.specs.Checks.{fetched, violation}
-use Rattle.assembler.specs.Runs.{running, runs, taking, runRefusal, told, after}
-use Rattle.assembler.proofs.Theorems.{Fine, First, ends, accepts, stops-at}
+use Rattle.checker.specs.Checks.{fetched, violation}
+use Rattle.checker.specs.Runs.{running, runs, taking, runRefusal, told, after}
+use Rattle.checker.proofs.Theorems.{Fine, First, ends, accepts, stops-at}
 use Rattle.card.specs.Card.{recordOf, codeBuffer, dataBuffer}
 use Rattle.card.proofs.Accepted.{Passes, accepted}
 use Rattle.card.proofs.Memory.{code-length, data-length}

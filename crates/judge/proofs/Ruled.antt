@@ -9,8 +9,8 @@ use lib.ListN.{length}
 use Rattle.words.proofs.Signed.{false-true}
 use Rattle.machine.specs.declared.Machine.{Machine}
 use Rattle.machine.specs.Record.{DOUBLE-WORDS, LONGEST}
-use Rattle.assembler.specs.declared.Outcome.{Outcome}
-use Rattle.assembler.specs.Runs.{verdictAnswer, runs}
+use Rattle.checker.specs.declared.Outcome.{Outcome}
+use Rattle.checker.specs.Runs.{verdictAnswer, runs}
 use Rattle.card.specs.declared.Answer.{Answer}
 use Rattle.card.specs.declared.Answer.the-variants as is
 use Rattle.card.specs.declared.Loaded.{Loaded}

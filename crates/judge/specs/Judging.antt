@@ -5,7 +5,7 @@ use lib.Dec.{eqb}
 use Rattle.words.specs.Fields.{pick}
 use Rattle.machine.specs.Record.{DOUBLE-WORDS, LONGEST}
 use Rattle.machine.specs.declared.Machine.{Machine}
-use Rattle.assembler.specs.Runs.{runs}
+use Rattle.checker.specs.Runs.{runs}
 use Rattle.card.specs.Card.{recordOf, codeBuffer, dataBuffer, refusal}
 use Rattle.judge.specs.declared.Ruling.{Ruling}
 use Rattle.judge.specs.declared.Ruling.the-variants.{Refused, Accepted, Violation}

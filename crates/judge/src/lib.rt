@@ -3,18 +3,18 @@ ghost use Prim.Native.Nat.{_≤_};
 ghost use mathlib.Core.Path.{_≡_};
 ghost use lib.ListN.{length};
 ghost use Rattle.machine.specs.Record.{DOUBLE-WORDS, LONGEST};
-ghost use Rattle.assembler.specs.Runs.{verdictAnswer};
+ghost use Rattle.checker.specs.Runs.{verdictAnswer};
 ghost use Rattle.judge.specs.Judging.{answerOf, ruled, judging};
 ghost use Rattle.judge.specs.Line.{lineOf, textOf, hex as Line·hex};
 
 mod digits;
 mod lines;
 
-use assembler::Outcome;
-use assembler::Verdict;
-use assembler::run;
 use card::Answer;
 use card::load;
+use checker::Outcome;
+use checker::Verdict;
+use checker::run;
 use digits::digit;
 pub use lines::Line;
 use lines::accepted;

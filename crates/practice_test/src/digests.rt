@@ -1,7 +1,7 @@
 // What the machines leave, as digests: 64-bit FNV-1a over words, each taken as four bytes, the lowest first.
-use assembler::Verdict;
 use card::Answer;
 use card::load;
+use checker::Verdict;
 use machine::Machine;
 use show::REGISTERS;
 use show::lower;
@@ -28,7 +28,7 @@ pub(crate) fn put_digests(card: &[u8]) {
     let machine = loaded.machine;
     if let Answer::Loaded = answer {
         put(b" asm ");
-        put_double(assembler_digest(machine, &code, &mut words));
+        put_double(checker_digest(machine, &code, &mut words));
         put(b" vamp ");
         put_double(vamp_digest(machine, &mut memory));
     }
@@ -40,8 +40,8 @@ fn put_double(double: u64) {
 }
 
 // The steps taken, the answer, the registers, the code and the data.
-fn assembler_digest(machine: Machine, code: &[u32], words: &mut [u32]) -> u64 {
-    let outcome = assembler::run(machine, code, words);
+fn checker_digest(machine: Machine, code: &[u32], words: &mut [u32]) -> u64 {
+    let outcome = checker::run(machine, code, words);
     let verdict = outcome.verdict;
     let after = outcome.machine;
     let ended = with_registers(verdict_digest(verdict), after);

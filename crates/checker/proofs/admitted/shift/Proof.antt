@@ -1,0 +1,8 @@
+use borrow.Author.Needs.{needs}
+use Rattle.checker.proofs.admitted.shift.Statement.{statement}
+use Rattle.checker.proofs.admitted.shift.Tie as tie
+
+pub shift-spec : {M : Type 1} → statement M
+shift-spec =
+    tie.close
+    (tie.spec (λ c. search needs) (λ c. search needs) (λ c. search needs) (λ c. search needs) (λ c. simp (c .enum-told .given .1)) (λ c. simp (c .enum-told2 .given .1)) (λ c. simp (c .enum-told3 .given .1)) (λ c. simp (c .enum-told4 .given .1)))

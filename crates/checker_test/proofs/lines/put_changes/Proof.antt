@@ -1,0 +1,28 @@
+use Prim.Native.Nat.{_-_}
+use borrow.Author.Needs.{needs}
+use lib.ListN.{length}
+use Rattle.checker_test.proofs.lines.put_changes.Statement.{statement}
+use Rattle.checker_test.proofs.lines.put_changes.Tie as tie
+
+abbrev Inv-loop : tie.InvT-loop
+Inv-loop name before after n₀ n = Unit {0}
+
+abbrev μ-loop : tie.MeasureT-loop
+μ-loop name before after n₀ n = length before - n
+
+pub put-changes-spec : {M : Type 1} → statement M
+put-changes-spec =
+    tie.close
+    (tie.spec
+    Inv-loop
+    μ-loop
+    (λ c. search needs)
+    (λ c. search needs)
+    (λ c. search needs)
+    (λ c. search needs)
+    (λ c. search needs)
+    (λ c κs. search needs)
+    (λ c. search needs)
+    (λ c. search needs)
+    (λ c. search needs)
+    (λ c. search needs))
