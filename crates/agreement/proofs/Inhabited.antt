@@ -8,14 +8,14 @@ use mathlib.Core.Bool.{Bool, true, false}
 use Rattle.words.specs.Fields.{pick}
 use mathlib.Core.Path.{_≡_, refl}
 use mathlib.Core.List.{List, [], _∷_}
-use Rattle.machine.specs.Record.{DOUBLE-WORDS, LONGEST, wrongCount, oddStart, pastMemory, overlap, idleSet, notZero, overLimit}
+use Rattle.machine.specs.Record.{DOUBLE-WORDS, LONGEST, wrongCount, unalignedStart, pastMemory, overlap, idleSet, notZero, overLimit}
 use Rattle.card.specs.Card.{Bytes, refusal, recordOf, wrongLength, tooShort, wrongMark, wrongVersion, reservedSet, wrongSize, tab, number16, number32}
 use Rattle.words.specs.Fields.{opcode, function, field, immediate16, immediate26}
 use Rattle.words.specs.Words.{reading}
 use Rattle.machine.specs.Rulings.{plus, sext}
 use Rattle.machine.specs.Effects.{act, moved, meaning, applied, register, put, putSpecial, access, askew, modeSet, illegal}
 use Rattle.machine.specs.Record.{wordAt}
-use Rattle.checker.specs.Checks.{violation, next, found, left, outside, foreign, runs}
+use Rattle.checker.specs.Checks.{violation, next, found, left, outside, foreign, admits}
 use Rattle.checker.specs.Runs.{running, after}
 use Rattle.card.specs.Card.{codeBuffer, dataBuffer, padded}
 use Rattle.agreement.specs.Demand.{checker}
@@ -44,6 +44,6 @@ holds : (e : Example) → T (small (e .of-card)) → refusal (e .of-card) LONGES
 holds e b r l c = record { bytes = small-bytes (e .of-card) b; loads = r; within = lit≤ l; says = c }
 
 pub examples-hold : Each examples
-unfolding refusal recordOf wrongLength tooShort wrongMark wrongVersion reservedSet wrongSize wrongCount oddStart pastMemory overlap idleSet notZero overLimit tab number16 number32 running after violation next found left outside foreign runs codeBuffer dataBuffer padded wordAt act moved meaning applied register put putSpecial access askew modeSet illegal reading opcode function field immediate16 immediate26 plus sext
+unfolding refusal recordOf wrongLength tooShort wrongMark wrongVersion reservedSet wrongSize wrongCount unalignedStart pastMemory overlap idleSet notZero overLimit tab number16 number32 running after violation next found left outside foreign admits codeBuffer dataBuffer padded wordAt act moved meaning applied register put putSpecial access askew modeSet illegal reading opcode function field immediate16 immediate26 plus sext
 examples-hold =
     (holds _ tt refl tt refl, (holds _ tt refl tt refl, (holds _ tt refl tt refl, (holds _ tt refl tt refl, (holds _ tt refl tt refl, (holds _ tt refl tt refl, (holds _ tt refl tt refl, (holds _ tt refl tt refl, (holds _ tt refl tt refl, (holds _ tt refl tt refl, (holds _ tt refl tt refl, (holds _ tt refl tt refl, (holds _ tt refl tt refl, (holds _ tt refl tt refl, (holds _ tt refl tt refl, (holds _ tt refl tt refl, tt))))))))))))))))

@@ -17,7 +17,7 @@ use Rattle.machine.specs.declared.Effect.{Effect}
 use Rattle.machine.specs.declared.Effect.the-variants as does
 use Rattle.machine.specs.Effects.{meaning, computed}
 use Rattle.words.specs.Words.{arithmeticRegisterNo, arithmeticImmediateNo, loadNo, storeNo}
-use Rattle.checker.specs.Checks.{runs, runsOpcode, runsFunction}
+use Rattle.checker.specs.Checks.{admits, admitsOpcode, admitsFunction}
 use Rattle.vamp.specs.Events.{trapped, overflowed}
 
 -- addo, subo, addio, subio
@@ -122,32 +122,32 @@ no-sums f p q And e = refl
 no-sums f p q Or e = refl
 no-sums f p q Xor e = refl
 
-pub runs-plain : (i : Instruction) → runs i ≡ true → excluded i ≡ false
-unfolding runs
-runs-plain (ShiftImmediate s rd r1 sa) e = refl
-runs-plain (ShiftRegister s rd r1 r2) e = refl
-runs-plain (Movs2i rd sa) e = refl
-runs-plain (Movi2s sa r1) e = refl
-runs-plain (ArithmeticRegister a rd r1 r2) e = no-sums (λ (b : Arithmetic). runsFunction (arithmeticRegisterNo b)) refl refl a e
-runs-plain (Lhg rd r1) e = refl
-runs-plain (Clr rd) e = refl
-runs-plain (CompareRegister k rd r1 r2) e = refl
-runs-plain (Set rd) e = refl
-runs-plain (J imm) e = refl
-runs-plain (Jal imm) e = refl
-runs-plain (Trap imm) e = absurd (false-true e)
-runs-plain Rfe e = absurd (false-true e)
-runs-plain (Beqz r1 imm) e = refl
-runs-plain (Bnez r1 imm) e = refl
-runs-plain (ArithmeticImmediate a rd r1 imm) e = no-sums (λ (b : Arithmetic). runsOpcode (arithmeticImmediateNo b)) refl refl a e
-runs-plain (Lhgi rd imm) e = refl
-runs-plain (Jr r1) e = refl
-runs-plain (Jalr r1) e = refl
-runs-plain (Clri rd) e = refl
-runs-plain (CompareImmediate k rd r1 imm) e = refl
-runs-plain (Seti rd) e = refl
-runs-plain (Load k rd r1 imm) e = refl
-runs-plain (Store k r1 imm rd) e = refl
+pub admitted-plain : (i : Instruction) → admits i ≡ true → excluded i ≡ false
+unfolding admits
+admitted-plain (ShiftImmediate s rd r1 sa) e = refl
+admitted-plain (ShiftRegister s rd r1 r2) e = refl
+admitted-plain (Movs2i rd sa) e = refl
+admitted-plain (Movi2s sa r1) e = refl
+admitted-plain (ArithmeticRegister a rd r1 r2) e = no-sums (λ (b : Arithmetic). admitsFunction (arithmeticRegisterNo b)) refl refl a e
+admitted-plain (Lhg rd r1) e = refl
+admitted-plain (Clr rd) e = refl
+admitted-plain (CompareRegister k rd r1 r2) e = refl
+admitted-plain (Set rd) e = refl
+admitted-plain (J imm) e = refl
+admitted-plain (Jal imm) e = refl
+admitted-plain (Trap imm) e = absurd (false-true e)
+admitted-plain Rfe e = absurd (false-true e)
+admitted-plain (Beqz r1 imm) e = refl
+admitted-plain (Bnez r1 imm) e = refl
+admitted-plain (ArithmeticImmediate a rd r1 imm) e = no-sums (λ (b : Arithmetic). admitsOpcode (arithmeticImmediateNo b)) refl refl a e
+admitted-plain (Lhgi rd imm) e = refl
+admitted-plain (Jr r1) e = refl
+admitted-plain (Jalr r1) e = refl
+admitted-plain (Clri rd) e = refl
+admitted-plain (CompareImmediate k rd r1 imm) e = refl
+admitted-plain (Seti rd) e = refl
+admitted-plain (Load k rd r1 imm) e = refl
+admitted-plain (Store k r1 imm rd) e = refl
 
 computed-words : (a : Arithmetic) (d x y : ℕ) → ByWords (computed a d x y)
 computed-words Addo d x y = tt
@@ -158,41 +158,41 @@ computed-words And d x y = tt
 computed-words Or d x y = tt
 computed-words Xor d x y = tt
 
-load-word : (k : LoadKind) → runsOpcode (loadNo k) ≡ true → k ≡ Lw
+load-word : (k : LoadKind) → admitsOpcode (loadNo k) ≡ true → k ≡ Lw
 load-word Lb e = absurd (false-true e)
 load-word Lh e = absurd (false-true e)
 load-word Lw e = refl
 load-word Lbu e = absurd (false-true e)
 load-word Lhu e = absurd (false-true e)
 
-store-word : (k : StoreKind) → runsOpcode (storeNo k) ≡ true → k ≡ Sw
+store-word : (k : StoreKind) → admitsOpcode (storeNo k) ≡ true → k ≡ Sw
 store-word Sb e = absurd (false-true e)
 store-word Sh e = absurd (false-true e)
 store-word Sw e = refl
 
-pub runs-words : (i : Instruction) (pc : ℕ) (g p : List ℕ) → runs i ≡ true → ByWords (meaning i pc g p .0)
-unfolding runs meaning
-runs-words (ShiftImmediate s rd r1 sa) pc g p e = tt
-runs-words (ShiftRegister s rd r1 r2) pc g p e = tt
-runs-words (Movs2i rd sa) pc g p e = tt
-runs-words (Movi2s sa r1) pc g p e = tt
-runs-words (ArithmeticRegister a rd r1 r2) pc g p e = computed-words a _ _ _
-runs-words (Lhg rd r1) pc g p e = tt
-runs-words (Clr rd) pc g p e = tt
-runs-words (CompareRegister k rd r1 r2) pc g p e = tt
-runs-words (Set rd) pc g p e = tt
-runs-words (J imm) pc g p e = tt
-runs-words (Jal imm) pc g p e = tt
-runs-words (Trap imm) pc g p e = tt
-runs-words Rfe pc g p e = tt
-runs-words (Beqz r1 imm) pc g p e = tt
-runs-words (Bnez r1 imm) pc g p e = tt
-runs-words (ArithmeticImmediate a rd r1 imm) pc g p e = computed-words a _ _ _
-runs-words (Lhgi rd imm) pc g p e = tt
-runs-words (Jr r1) pc g p e = tt
-runs-words (Jalr r1) pc g p e = tt
-runs-words (Clri rd) pc g p e = tt
-runs-words (CompareImmediate k rd r1 imm) pc g p e = tt
-runs-words (Seti rd) pc g p e = tt
-runs-words (Load k rd r1 imm) pc g p e = load-word k e
-runs-words (Store k r1 imm rd) pc g p e = store-word k e
+pub admitted-words : (i : Instruction) (pc : ℕ) (g p : List ℕ) → admits i ≡ true → ByWords (meaning i pc g p .0)
+unfolding admits meaning
+admitted-words (ShiftImmediate s rd r1 sa) pc g p e = tt
+admitted-words (ShiftRegister s rd r1 r2) pc g p e = tt
+admitted-words (Movs2i rd sa) pc g p e = tt
+admitted-words (Movi2s sa r1) pc g p e = tt
+admitted-words (ArithmeticRegister a rd r1 r2) pc g p e = computed-words a _ _ _
+admitted-words (Lhg rd r1) pc g p e = tt
+admitted-words (Clr rd) pc g p e = tt
+admitted-words (CompareRegister k rd r1 r2) pc g p e = tt
+admitted-words (Set rd) pc g p e = tt
+admitted-words (J imm) pc g p e = tt
+admitted-words (Jal imm) pc g p e = tt
+admitted-words (Trap imm) pc g p e = tt
+admitted-words Rfe pc g p e = tt
+admitted-words (Beqz r1 imm) pc g p e = tt
+admitted-words (Bnez r1 imm) pc g p e = tt
+admitted-words (ArithmeticImmediate a rd r1 imm) pc g p e = computed-words a _ _ _
+admitted-words (Lhgi rd imm) pc g p e = tt
+admitted-words (Jr r1) pc g p e = tt
+admitted-words (Jalr r1) pc g p e = tt
+admitted-words (Clri rd) pc g p e = tt
+admitted-words (CompareImmediate k rd r1 imm) pc g p e = tt
+admitted-words (Seti rd) pc g p e = tt
+admitted-words (Load k rd r1 imm) pc g p e = load-word k e
+admitted-words (Store k r1 imm rd) pc g p e = store-word k e

@@ -9,7 +9,7 @@ use lib.Dec.{eqb}
 use lib.ListN.{length}
 use Rattle.machine.specs.declared.Machine.{Machine}
 use Rattle.machine.specs.Effects.{State}
-use Rattle.machine.specs.Record.{DOUBLE-WORDS, LONGEST, stateOf, withState, wrongCount, oddStart, pastMemory, overlap, notZero, overLimit}
+use Rattle.machine.specs.Record.{DOUBLE-WORDS, LONGEST, stateOf, withState, wrongCount, unalignedStart, pastMemory, overlap, notZero, overLimit}
 use Rattle.checker.specs.Checks.{violation}
 use Rattle.checker.specs.Runs as checked
 use Rattle.checker.specs.Runs.{runs, taking, runRefusal}

@@ -16,16 +16,16 @@ use Rattle.machine.specs.Effects.{State, act, illegal, askew}
 use Rattle.machine.specs.Record.{MEMORY, holds}
 use Rattle.machine.proofs.Acts.{word-reads, illegal-yes}
 use Rattle.machine.proofs.Regions.{holds-yes}
-use Rattle.checker.specs.Checks.{runs, violation, next, fetched}
+use Rattle.checker.specs.Checks.{admits, violation, next, fetched}
 use Rattle.checker.specs.Runs.{after}
-use Rattle.checker.proofs.Tests.{Passes, passes, foreign-runs, at-21, at-23, at-25}
+use Rattle.checker.proofs.Tests.{Passes, passes, foreign-admits, at-21, at-23, at-25}
 use Rattle.checker.proofs.Theorems.{Fine}
 use Rattle.vamp.specs.Events.{stepped, interrupt, MISALIGNED, ILLEGAL, event}
 use Rattle.vamp.specs.Events as ship
 use Rattle.vamp.specs.Steps.{vstep}
 use Rattle.vamp.specs.Steps as vamp
 use Rattle.agreement.proofs.Relation.{Laid, Image, Same, fetch-same}
-use Rattle.agreement.proofs.Plain.{runs-plain, runs-words}
+use Rattle.agreement.proofs.Plain.{admitted-plain, admitted-words}
 use Rattle.agreement.proofs.Step.{taken, stays-same}
 
 module _ (c d : Region) (l : Laid c d) (code : List ℕ) where
@@ -37,20 +37,20 @@ module _ (c d : Region) (l : Laid c d) (code : List ℕ) where
     p : Passes c d code s
     p = passes c d code s z
 
-    admitted : (i : Instruction) × (reading w ≡ (0, some i)) × (runs i ≡ true)
+    admitted : (i : Instruction) × (reading w ≡ (0, some i)) × (admits i ≡ true)
     admitted = by (word-reads w)
       where
-        by : ((i : Instruction) × (reading w ≡ (0, some i))) ⊎ (reading w ≡ (23, none)) → (i : Instruction) × (reading w ≡ (0, some i)) × (runs i ≡ true)
-        by (inl q) = (q .0, q .1, not-false (runs (q .0)) (sym (foreign-runs w (q .0) (q .1)) ∙ p .own))
+        by : ((i : Instruction) × (reading w ≡ (0, some i))) ⊎ (reading w ≡ (23, none)) → (i : Instruction) × (reading w ≡ (0, some i)) × (admits i ≡ true)
+        by (inl q) = (q .0, q .1, not-false (admits (q .0)) (sym (foreign-admits w (q .0) (q .1)) ∙ p .own))
         by (inr q) = absurd (false-true (sym (p .legal) ∙ illegal-yes w q))
 
     step-taken : (vstep (s, mem) .0 ≡ stepped 0) × Same c d code (next c d code (s, ws)) (vstep (s, mem) .1)
     step-taken =
         let a = admitted in
-        let t = taken runs runs-plain runs-words c d l code s ws mem r (p .aligned) (p .within) (a .0) (a .1) (a .2) (p .even) (p .inside) (p .calm) in (
+        let t = taken admits admitted-plain admitted-words c d l code s ws mem r (p .aligned) (p .within) (a .0) (a .1) (a .2) (p .even) (p .inside) (p .calm) in (
           ap (λ (o : (ℕ × ℕ) × (State × List ℕ)). o .0) t,
           subst (λ (o : (ℕ × ℕ) × (State × List ℕ)). Same c d code (next c d code (s, ws)) (o .1)) (sym t)
-              (stays-same runs runs-plain runs-words c d l code s ws mem r (p .aligned) (p .within) (a .0) (a .1) (a .2) (p .even) (p .inside) (p .calm)),
+              (stays-same admits admitted-plain admitted-words c d l code s ws mem r (p .aligned) (p .within) (a .0) (a .1) (a .2) (p .even) (p .inside) (p .calm)),
         )
 
   -- The same with the VAMP's own state

@@ -23,18 +23,18 @@ use Rattle.machine.proofs.Acts.{act-reads, legal-not, illegal-yes}
 use Rattle.machine.proofs.Bounds.{Words, Small, act-small, moved-words}
 use Rattle.machine.proofs.Regions.{holds-yes}
 use Rattle.checker.specs.Checks as drawing
-use Rattle.checker.specs.Checks.{runs, outside, violation, next}
+use Rattle.checker.specs.Checks.{admits, outside, violation, next}
 use Rattle.checker.proofs.Tests.{load-inside, store-inside, passes}
 use Rattle.checker.proofs.Beyond.{left-length}
 use Rattle.vamp.specs.Memory.{at, loaded, put}
 use Rattle.vamp.specs.Memory as memory
-use Rattle.vamp.specs.Events.{stepped, interrupt, MISALIGNED, ILLEGAL, odd, beyond, accessPast, trapped, overflowed, overflowMasked, events, event}
+use Rattle.vamp.specs.Events.{stepped, interrupt, MISALIGNED, ILLEGAL, unmodelled, accessPast, trapped, overflowed, overflowMasked, events, event}
 use Rattle.vamp.specs.Events as ship
 use Rattle.vamp.specs.Steps as ship-steps
 use Rattle.vamp.specs.Steps.{vstep}
 use Rattle.vamp.proofs.Memory.{put-length, part-below}
 use Rattle.agreement.proofs.Relation.{Laid, Image, Same, fetch-same, load-same, store-same}
-use Rattle.agreement.proofs.Plain.{Calm, ByWords, excluded, plain-calm, runs-plain, runs-words}
+use Rattle.agreement.proofs.Plain.{Calm, ByWords, excluded, plain-calm, admitted-plain, admitted-words}
 
 -- ---- Memory, by the kinds of effect
 
@@ -59,8 +59,8 @@ module _ (c d : Region) (l : Laid c d) (code ws mem : List ℕ) (i : Image c d c
   found-same does.Return b s o = refl
   found-same does.Nothing b s o = refl
 
-  pub kept-same : (e : Effect) → ByWords e → Small e → askew e ≡ false → outside d e ≡ false → Image c d code (drawing.left d ws e) (ship-steps.kept e mem)
-  unfolding ship-steps.kept drawing.left memory.stored
+  pub kept-same : (e : Effect) → ByWords e → Small e → askew e ≡ false → outside d e ≡ false → Image c d code (drawing.left d ws e) (ship-steps.memoryAfter e mem)
+  unfolding ship-steps.memoryAfter drawing.left memory.stored
   kept-same (does.Put n x) b z s o = i
   kept-same (does.PutSpecial n x) b z s o = i
   kept-same (does.Sum n x t) b z s o = i
@@ -83,8 +83,8 @@ module _ (c d : Region) (l : Laid c d) (code ws mem : List ℕ) (i : Image c d c
   not-past does.Nothing o = refl
 
 -- Memory keeps its size
-kept-length : (e : Effect) (mem : List ℕ) → length (ship-steps.kept e mem) ≡ length mem
-unfolding ship-steps.kept memory.stored
+kept-length : (e : Effect) (mem : List ℕ) → length (ship-steps.memoryAfter e mem) ≡ length mem
+unfolding ship-steps.memoryAfter memory.stored
 kept-length (does.Put n x) mem = refl
 kept-length (does.PutSpecial n x) mem = refl
 kept-length (does.Sum n x t) mem = refl

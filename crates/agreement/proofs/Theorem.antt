@@ -8,7 +8,7 @@ use lib.ListN.{getD, length}
 use Rattle.machine.specs.declared.Machine.{Machine}
 use Rattle.machine.specs.Effects.{State}
 use Rattle.machine.specs.Record.{DOUBLE-WORDS, MEMORY, LONGEST, holds, stateOf, wordAt}
-use Rattle.machine.proofs.Regions.{right-count, even-starts, in-memory, apart-disjoint, holds-in, word-at, image-code, image-data, image-else}
+use Rattle.machine.proofs.Regions.{right-count, aligned-starts, in-memory, apart-disjoint, holds-in, word-at, image-code, image-data, image-else}
 use Rattle.checker.specs.Checks.{violation}
 use Rattle.checker.specs.Runs.{after}
 use Rattle.checker.proofs.Theorems.{Fine, accepted-only, violation-only}
@@ -58,8 +58,8 @@ module _ (card : List ℕ) (b : Bytes card) (ok : refusal card LONGEST LONGEST D
       record {
         code-in = in-memory m (passed .within) .0;
         data-in = in-memory m (passed .within) .1;
-        code-even = even-starts m (passed .starts) .0;
-        data-even = even-starts m (passed .starts) .1;
+        code-even = aligned-starts m (passed .starts) .0;
+        data-even = aligned-starts m (passed .starts) .1;
         apart = apart-disjoint m (passed .apart);
       }
 

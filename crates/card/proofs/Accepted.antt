@@ -9,7 +9,7 @@ use lib.Dec.{eqb}
 use lib.ListN.{length}
 use Rattle.words.specs.Fields.{pick}
 use Rattle.machine.specs.declared.Machine.{Machine}
-use Rattle.machine.specs.Record.{DOUBLE-WORDS, LONGEST, wrongCount, oddStart, pastMemory, overlap, notZero, overLimit}
+use Rattle.machine.specs.Record.{DOUBLE-WORDS, LONGEST, wrongCount, unalignedStart, pastMemory, overlap, notZero, overLimit}
 use Rattle.machine.proofs.Regions.{either-left, either-right, right-count}
 use Rattle.card.specs.Card.{BODY, recordOf, wrongLength, tooShort, wrongMark, wrongVersion, reservedSet, wrongSize, refusal}
 use Rattle.card.specs.Work.{Room}
@@ -17,7 +17,7 @@ use Rattle.card.specs.Work.{Room}
 -- No test of a record refuses m
 pub record Passes (m : Machine) : Type 0 where
   pub counts : wrongCount m ≡ false
-  pub starts : oddStart m ≡ false
+  pub starts : unalignedStart m ≡ false
   pub within : pastMemory m ≡ false
   pub apart : overlap m ≡ false
   pub zero : notZero m ≡ false
@@ -50,7 +50,7 @@ module _ (card : List ℕ) (code words memory : ℕ) where
       let t5 = not-this (reservedSet card) 5 _ (omega arith) (t4 .1) in
       let t6 = not-this (wrongCount m) 6 _ (omega arith) (t5 .1) in
       let t7 = not-this (wrongSize (length card) m) 7 _ (omega arith) (t6 .1) in
-      let t8 = not-this (oddStart m) 8 _ (omega arith) (t7 .1) in
+      let t8 = not-this (unalignedStart m) 8 _ (omega arith) (t7 .1) in
       let t9 = not-this (pastMemory m) 9 _ (omega arith) (t8 .1) in
       let t10 = not-this (overlap m) 10 _ (omega arith) (t9 .1) in
       let t11 = not-this (notZero m) 11 _ (omega arith) (t10 .1) in

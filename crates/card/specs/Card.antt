@@ -7,7 +7,7 @@ use lib.ListN.{length, getD}
 use Rattle.words.specs.Fields.{pick}
 use Rattle.machine.specs.declared.Machine.{Machine}
 use Rattle.machine.specs.declared.Region.{Region}
-use Rattle.machine.specs.Record.{LONGEST, DOUBLE-WORDS, zeros, image, wrongCount, oddStart, pastMemory, overlap, notZero, overLimit, first}
+use Rattle.machine.specs.Record.{LONGEST, DOUBLE-WORDS, zeros, image, wrongCount, unalignedStart, pastMemory, overlap, notZero, overLimit, first}
 use Rattle.card.specs.declared.Answer.{Answer}
 use Rattle.card.specs.declared.Answer.the-variants.{Refused, Loaded}
 
@@ -86,7 +86,7 @@ table card m code words memory =
     ∷ (reservedSet card, 5)
     ∷ (wrongCount m, 6)
     ∷ (wrongSize (length card) m, 7)
-    ∷ (oddStart m, 8)
+    ∷ (unalignedStart m, 8)
     ∷ (pastMemory m, 9)
     ∷ (overlap m, 10)
     ∷ (notZero m, 11)

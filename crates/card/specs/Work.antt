@@ -9,8 +9,8 @@ use Rattle.machine.specs.Record.{DOUBLE-WORDS, LONGEST, first}
 use Rattle.card.specs.Card.{BODY, recordOf, table}
 
 -- The table from test 6 on, the lengths being right
-abbrev pub later : List ℕ → Machine → ℕ
-later card m = first (drop 5 (table card m LONGEST LONGEST DOUBLE-WORDS)) 0
+abbrev pub fromSix : List ℕ → Machine → ℕ
+fromSix card m = first (drop 5 (table card m LONGEST LONGEST DOUBLE-WORDS)) 0
 
 -- A region's words are all in a buffer
 pub record Held (r : Region) (ws : List ℕ) : Type 0 where

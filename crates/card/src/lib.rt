@@ -8,7 +8,7 @@ mod table;
 
 use fills::work;
 use machine::Machine;
-use table::judge;
+use table::refusal_of;
 
 // The answer of a load: the number of the refusal, or loaded.
 pub enum Answer {
@@ -26,7 +26,7 @@ pub struct Loaded {
 pub fn load(card: &[u8], code: &mut [u32], words: &mut [u32], memory: &mut [u64]) -> Loaded
     ensures { λ r. ⌜ (answerOf (r .answer), r .machine, now (code .exit), now (words .exit), now (memory .exit)) ≡ loading (now (card .entry)) (now (code .entry)) (now (words .entry)) (now (memory .entry)) ⌝ }
 {
-    let number = judge(card, code.len(), words.len(), memory.len());
+    let number = refusal_of(card, code.len(), words.len(), memory.len());
     if number != 0 {
         return Loaded {
             answer: Answer::Refused(number),

@@ -3,21 +3,21 @@ ghost use mathlib.Core.Path.{_≡_};
 ghost use Prim.Native.Nat.{_≤_};
 ghost use lib.ListN.{length};
 ghost use Rattle.card.specs.Card.{refusal, wrongLength, wrongMark, wrongVersion, reservedSet, wrongSize, BODY};
-ghost use Rattle.card.specs.Work.{later};
+ghost use Rattle.card.specs.Work.{fromSix};
 use crate::fields::BODY;
 use crate::fields::VERSION;
 use crate::fields::number16;
 use crate::fields::record_of;
 use machine::Machine;
 use machine::refusals::not_zero;
-use machine::refusals::odd_start;
 use machine::refusals::over_limit;
 use machine::refusals::overlaps;
 use machine::refusals::past_memory;
+use machine::refusals::unaligned_start;
 use machine::refusals::wrong_count;
 
 // The number of the first test that holds, 0 where none does.
-pub(crate) fn judge(card: &[u8], code: usize, words: usize, memory: usize) -> u32
+pub(crate) fn refusal_of(card: &[u8], code: usize, words: usize, memory: usize) -> u32
     ensures { λ r. ⌜ r ≡ refusal (now (card .entry)) code words memory ⌝ }
 {
     if wrong_length(code, words, memory) {
@@ -35,12 +35,12 @@ pub(crate) fn judge(card: &[u8], code: usize, words: usize, memory: usize) -> u3
     if reserved_set(card) {
         return 5;
     }
-    judge_record(card, record_of(card))
+    refusal_of_record(card, record_of(card))
 }
 
 // The same from test 6 on, of a card and its record.
-fn judge_record(card: &[u8], machine: Machine) -> u32
-    ensures { λ r. ⌜ r ≡ later (now (card .entry)) machine ⌝ }
+fn refusal_of_record(card: &[u8], machine: Machine) -> u32
+    ensures { λ r. ⌜ r ≡ fromSix (now (card .entry)) machine ⌝ }
 {
     if wrong_count(machine) {
         return 6;
@@ -48,7 +48,7 @@ fn judge_record(card: &[u8], machine: Machine) -> u32
     if wrong_size(card.len(), machine) {
         return 7;
     }
-    if odd_start(machine) {
+    if unaligned_start(machine) {
         return 8;
     }
     if past_memory(machine) {

@@ -1,4 +1,4 @@
--- The answer does not depend on the buffers' words past C and D, and leaves those of the data as they are.
+-- What lies past C and D in the buffers: a run's answer does not depend on it, and the data past D stays as it is.
 use Prim.Native.Nat.{ℕ, zero, suc, _-_, _/_, _%_, _≤_, _<_}
 use mathlib.Core.Path.{_≡_, refl, sym, ap, subst, _∙_}
 use mathlib.Core.Bool.{Bool, true, false, not}
@@ -11,12 +11,13 @@ use lib.Seq.{getD-set-same, getD-set-other}
 use Rattle.words.specs.Fields.{pick}
 use Rattle.machine.specs.declared.Effect.{Effect}
 use Rattle.machine.specs.declared.Effect.the-variants as does
+use Rattle.machine.specs.declared.Machine.{Machine}
 use Rattle.machine.specs.declared.Region.{Region}
 use Rattle.machine.specs.Effects.{State, act, moved, access}
-use Rattle.machine.specs.Record.{holds, wordAt}
+use Rattle.machine.specs.Record.{holds, wordAt, stateOf}
 use Rattle.machine.proofs.Regions.{placed}
 use Rattle.checker.specs.Checks.{fetched, violation, next, found, left, outside}
-use Rattle.checker.specs.Runs.{running, told}
+use Rattle.checker.specs.Runs.{running, taking, told}
 use Rattle.checker.proofs.Tests.{load-inside, store-inside, stop-21, stop-22, passes}
 use Rattle.checker.proofs.Fold.{run-on, run-stop}
 
@@ -59,7 +60,7 @@ module _ (d : Region) (ws ws′ : List ℕ) (f : Agree d ws ws′) (r : d .words
   agree-left does.Return o = f
   agree-left does.Nothing o = f
 
--- A store keeps the length, and what lies past the region
+-- A store keeps the length
 pub left-length : (d : Region) (ws : List ℕ) (e : Effect) → length (left d ws e) ≡ length ws
 unfolding left
 left-length d ws (does.Put n x) = refl
@@ -70,6 +71,62 @@ left-length d ws (does.Store k a x) = length-set ws ((a - d .start) / 4) x
 left-length d ws (does.Trap z) = refl
 left-length d ws does.Return = refl
 left-length d ws does.Nothing = refl
+
+-- and what lies past the region
+left-past : (d : Region) (ws : List ℕ) (e : Effect) → outside d e ≡ false → (i : ℕ) → d .words ≤ i → getD (left d ws e) i 0 ≡ getD ws i 0
+unfolding left
+left-past d ws (does.Put n x) o i l = refl
+left-past d ws (does.PutSpecial n x) o i l = refl
+left-past d ws (does.Sum n x t) o i l = refl
+left-past d ws (does.Load k n a) o i l = refl
+left-past d ws (does.Store k a x) o i l =
+    let h = placed d a (store-inside d (does.Store k a x) k a x refl o) in
+    getD-set-other {A = ℕ} ws ((a - d .start) / 4) i x 0 (omega arith)
+left-past d ws (does.Trap z) o i l = refl
+left-past d ws does.Return o i l = refl
+left-past d ws does.Nothing o i l = refl
+
+module _ (c d : Region) (code : List ℕ) where
+  next-past : (p : State × List ℕ) → violation c d code (p .0) ≡ 0 → (i : ℕ) → d .words ≤ i → getD (next c d code p .1) i 0 ≡ getD (p .1) i 0
+  unfolding next
+  next-past p z i l = left-past d (p .1) (act (fetched c code (p .0)) (p .0) .0) (passes c d code (p .0) z .inside) i l
+
+  run-past : (n k : ℕ) (p : State × List ℕ) (i : ℕ) → d .words ≤ i → getD (running c d code k n p .1 .1) i 0 ≡ getD (p .1) i 0
+  unfolding running
+  run-past zero k p i l = refl
+  run-past (suc n) k p i l = by (violation c d code (p .0)) refl (run-past n (suc k) (next c d code p) i l)
+    where
+      by : (v : ℕ) → violation c d code (p .0) ≡ v
+          → getD (running c d code (suc k) n (next c d code p) .1 .1) i 0 ≡ getD (next c d code p .1) i 0
+          → getD (running c d code k (suc n) p .1 .1) i 0 ≡ getD (p .1) i 0
+      by zero e rest = rw (run-on c d code p k n e) (rest ∙ next-past p e i l)
+      by (suc v) e rest = rw (run-stop c d code p k n (suc v) e (omega arith))
+
+  next-length : (p : State × List ℕ) → length (next c d code p .1) ≡ length (p .1)
+  unfolding next
+  next-length p = left-length d (p .1) (act (fetched c code (p .0)) (p .0) .0)
+
+  run-length : (n k : ℕ) (p : State × List ℕ) → length (running c d code k n p .1 .1) ≡ length (p .1)
+  unfolding running
+  run-length zero k p = refl
+  run-length (suc n) k p = by (violation c d code (p .0)) refl (run-length n (suc k) (next c d code p))
+    where
+      by : (v : ℕ) → violation c d code (p .0) ≡ v
+          → length (running c d code (suc k) n (next c d code p) .1 .1) ≡ length (next c d code p .1)
+          → length (running c d code k (suc n) p .1 .1) ≡ length (p .1)
+      by zero e rest = rw (run-on c d code p k n e) (rest ∙ next-length p)
+      by (suc v) e rest = rw (run-stop c d code p k n (suc v) e (omega arith))
+
+-- No step or run changes the data past D, nor the buffer's length
+pub past-kept : (r n : ℕ) (m : Machine) (code ws : List ℕ) (i : ℕ) → m .«data» .words ≤ i → getD (taking r n m code ws .2) i 0 ≡ getD ws i 0
+unfolding taking
+past-kept zero n m code ws i l = run-past (m .code) (m .«data») code n 0 (stateOf m, ws) i l
+past-kept (suc r) n m code ws i l = refl
+
+pub length-kept : (r n : ℕ) (m : Machine) (code ws : List ℕ) → length (taking r n m code ws .2) ≡ length ws
+unfolding taking
+length-kept zero n m code ws = run-length (m .code) (m .«data») code n 0 (stateOf m, ws)
+length-kept (suc r) n m code ws = refl
 
 -- The same step from the same state, whatever lies past the regions
 module _ (c d : Region) (code code′ : List ℕ) (f : Agree c code code′) (s : State) where
@@ -121,9 +178,9 @@ abbrev pub Alike : Region → (ℕ × List ℕ) × (State × List ℕ) → (ℕ 
 Alike d o q = (o .0 ≡ q .0) × (o .1 .0 ≡ q .1 .0) × Agree d (o .1 .1) (q .1 .1)
 
 module _ (c d : Region) (code code′ : List ℕ) (f : Agree c code code′) where
-  kept : (code ws : List ℕ) (s : State) → d .words ≤ length ws → d .words ≤ length (next c d code (s, ws) .1)
+  roomy : (code ws : List ℕ) (s : State) → d .words ≤ length ws → d .words ≤ length (next c d code (s, ws) .1)
   unfolding next
-  kept code ws s l = rw (left-length d ws (act (fetched c code s) s .0)) l
+  roomy code ws s l = rw (left-length d ws (act (fetched c code s) s .0)) l
 
   pub independent : (n k : ℕ) (s : State) (ws ws′ : List ℕ) → Agree d ws ws′ → d .words ≤ length ws → d .words ≤ length ws′
       → Alike d (running c d code k n (s, ws)) (running c d code′ k n (s, ws′))
@@ -140,7 +197,7 @@ module _ (c d : Region) (code code′ : List ℕ) (f : Agree c code code′) whe
           rw (run-on c d code (s, ws) k n e, run-on c d code′ (s, ws′) k n e′)
           (subst (λ (t : State). Alike d (running c d code (suc k) n (next c d code (s, ws))) (running c d code′ (suc k) n (t, next c d code′ (s, ws′) .1)))
           (same-state c d code code′ f s e ws ws′ g r r′)
-          (rest (next c d code (s, ws) .0) (next c d code (s, ws) .1) (next c d code′ (s, ws′) .1) (agree-next c d code code′ f s e ws ws′ g r r′) (kept code ws s r) (kept code′ ws′ s r′)))
+          (rest (next c d code (s, ws) .0) (next c d code (s, ws) .1) (next c d code′ (s, ws′) .1) (agree-next c d code code′ f s e ws ws′ g r r′) (roomy code ws s r) (roomy code′ ws′ s r′)))
       by (suc v) e rest =
           let e′ : violation c d code′ s ≡ suc v = sym (same-violation c d code code′ f s) ∙ e in
           rw (run-stop c d code (s, ws) k n (suc v) e (omega arith), run-stop c d code′ (s, ws′) k n (suc v) e′ (omega arith))

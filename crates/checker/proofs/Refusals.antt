@@ -9,7 +9,7 @@ use lib.Dec.{eqb}
 use Rattle.words.specs.Fields.{pick}
 use Rattle.machine.specs.declared.Machine.{Machine}
 use Rattle.machine.proofs.Regions.{either-left, either-right, right-count}
-use Rattle.machine.specs.Record.{LONGEST, wrongCount, oddStart, pastMemory, overlap, notZero, overLimit, first}
+use Rattle.machine.specs.Record.{LONGEST, wrongCount, unalignedStart, pastMemory, overlap, notZero, overLimit, first}
 use Rattle.checker.specs.Runs.{wrongLength, stepRefusal, runRefusal, taking}
 
 -- Over any outcome of the tests
@@ -27,7 +27,7 @@ tables false false false false false false g = refl
 
 pub run-refusal : (m : Machine) (c w : ℕ) → runRefusal m c w ≡ pick (eqb (stepRefusal m c w) 0) (pick (overLimit m) 12 0) (stepRefusal m c w)
 unfolding runRefusal stepRefusal
-run-refusal m c w = tables (wrongLength c w) (wrongCount m) (oddStart m) (pastMemory m) (overlap m) (notZero m) (overLimit m)
+run-refusal m c w = tables (wrongLength c w) (wrongCount m) (unalignedStart m) (pastMemory m) (overlap m) (notZero m) (overLimit m)
 
 -- No refusal: every test is false
 all-false : (a b c d e f : Bool) → _≡_ {A = ℕ} (first ((a, 1) ∷ (b, 6) ∷ (c, 8) ∷ (d, 9) ∷ (e, 10) ∷ (f, 11) ∷ []) 0) 0
@@ -41,9 +41,9 @@ all-false false false false false false true z = absurd (omega arith)
 all-false false false false false false false z = (refl, refl, refl, refl, refl, refl)
 
 pub step-passes : (m : Machine) (c w : ℕ) → stepRefusal m c w ≡ 0
-    → (wrongLength c w ≡ false) × (wrongCount m ≡ false) × (oddStart m ≡ false) × (pastMemory m ≡ false) × (overlap m ≡ false) × (notZero m ≡ false)
+    → (wrongLength c w ≡ false) × (wrongCount m ≡ false) × (unalignedStart m ≡ false) × (pastMemory m ≡ false) × (overlap m ≡ false) × (notZero m ≡ false)
 unfolding stepRefusal
-step-passes m c w z = all-false (wrongLength c w) (wrongCount m) (oddStart m) (pastMemory m) (overlap m) (notZero m) z
+step-passes m c w z = all-false (wrongLength c w) (wrongCount m) (unalignedStart m) (pastMemory m) (overlap m) (notZero m) z
 
 -- A run is not refused exactly where a step is not and the limit is not over
 pub run-passes : (m : Machine) (c w : ℕ) → runRefusal m c w ≡ 0 → stepRefusal m c w ≡ 0

@@ -17,7 +17,7 @@ use Rattle.words.specs.declared.Instruction.{Instruction}
 use Rattle.machine.specs.Effects.{State, illegal, access, act, meaning, applied, moved, askew, modeSet}
 use Rattle.machine.specs.Record.{holds, first}
 use Rattle.machine.proofs.Acts.{act-reads, legal-not}
-use Rattle.checker.specs.Checks.{outside, runs, foreign, fetched, violation, found, left, next}
+use Rattle.checker.specs.Checks.{outside, admits, foreign, fetched, violation, found, left, next}
 
 -- A load or store that is not outside the region has an address in it
 pub load-inside : (d : Region) (e : Effect) (k : LoadKind) (n a : ℕ) → e ≡ does.Load k n a → outside d e ≡ false → holds d a ≡ true
@@ -29,9 +29,9 @@ unfolding outside access
 store-inside d e k a x q o = not-false (holds d a) (rw q at o)
 
 -- The reading of a word decides test 24
-pub foreign-runs : (w : ℕ) (i : Instruction) → reading w ≡ (0, some i) → foreign w ≡ not (runs i)
+pub foreign-admits : (w : ℕ) (i : Instruction) → reading w ≡ (0, some i) → foreign w ≡ not (admits i)
 unfolding foreign
-foreign-runs w i e = rw (e, foreign)
+foreign-admits w i e = rw (e, foreign)
 
 -- The tests of a step in order, each where the earlier ones hold nothing against it
 module _ (c d : Region) (code : List ℕ) (s : State) where
@@ -52,15 +52,15 @@ module _ (c d : Region) (code : List ℕ) (s : State) where
       abbrev w : ℕ
       w = fetched c code s
 
-      pub stop-24 : runs i ≡ false → violation c d code s ≡ 24
+      pub stop-24 : admits i ≡ false → violation c d code s ≡ 24
       unfolding violation
-      stop-24 r = rw (eq-eqb (s .dpc % 4) 0 a, h, legal-not w i e, foreign-runs w i e, r)
+      stop-24 r = rw (eq-eqb (s .dpc % 4) 0 a, h, legal-not w i e, foreign-admits w i e, r)
 
       -- What is left are the tests of the effect
-      pub tests-left : runs i ≡ true → (x : Effect) → x ≡ meaning i (s .pc) (s .gpr) (s .spr) .0
+      pub tests-left : admits i ≡ true → (x : Effect) → x ≡ meaning i (s .pc) (s .gpr) (s .spr) .0
           → violation c d code s ≡ first ((askew x, 25) ∷ (outside d x, 26) ∷ (modeSet x, 27) ∷ []) 0
       unfolding violation
-      tests-left r x q = rw (eq-eqb (s .dpc % 4) 0 a, h, legal-not w i e, foreign-runs w i e, r, act-reads w s i e, q)
+      tests-left r x q = rw (eq-eqb (s .dpc % 4) 0 a, h, legal-not w i e, foreign-admits w i e, r, act-reads w s i e, q)
 
       -- A step taken, from what its parts answer: effect x and next PC' n; what a load found and the data v, ws′; DPC and registers t, g, p
       pub taken : (ws : List ℕ) (x : Effect) (n v t : ℕ) (ws′ g p : List ℕ)

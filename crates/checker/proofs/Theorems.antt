@@ -11,7 +11,7 @@ use Rattle.machine.specs.declared.Machine.{Machine}
 use Rattle.machine.specs.declared.Region.{Region}
 use Rattle.machine.specs.Effects.{State, act}
 use Rattle.machine.specs.Record.{notZero, stateOf}
-use Rattle.machine.proofs.Quiet.{Quiet, quiet-moved, quiet-record, record-quiet}
+use Rattle.machine.proofs.Quiet.{Quiet, ReadsZero, quiet-moved, quiet-record, record-quiet, quiet-reads}
 use Rattle.checker.specs.Checks.{fetched, violation, next, found}
 use Rattle.checker.specs.Runs.{running, told, after, taking, verdictAnswer, stepping, runs}
 use Rattle.checker.specs.declared.Verdict.{Verdict}
@@ -125,6 +125,19 @@ module _ (c d : Region) (code : List ℕ) where
           → Quiet (running c d code k (suc n) p .1 .0 .gpr) (running c d code k (suc n) p .1 .0 .spr)
       by zero e rest = rw (run-on c d code p k n e) (rest (quiet-next p e q))
       by (suc v) e rest = rw (run-stop c d code p k n (suc v) e (omega arith)) q
+
+  quiet-after : (k : ℕ) (p : State × List ℕ) → Fine c d code k p → Quiet (p .0 .gpr) (p .0 .spr)
+      → Quiet (after c d code k p .0 .gpr) (after c d code k p .0 .spr)
+  unfolding after
+  quiet-after zero p f q = q
+  quiet-after (suc k) p f q = quiet-after k (next c d code p) (fine-next c d code k p f) (quiet-next p (fine-first c d code k p f) q)
+
+-- "R0 is always 0", and "the others read zero": in every state of an accepted run
+pub reads-zero : (m : Machine) (code ws : List ℕ) (n : ℕ) → notZero m ≡ false → Fine (m .code) (m .«data») code n (stateOf m, ws)
+    → (j : ℕ) → j ≤ n → ReadsZero (after (m .code) (m .«data») code j (stateOf m, ws) .0)
+reads-zero m code ws n z f j l =
+    quiet-reads (after (m .code) (m .«data») code j (stateOf m, ws) .0)
+    (quiet-after (m .code) (m .«data») code j (stateOf m, ws) (λ i h. f i (omega arith)) (quiet-record m z))
 
 pub handed-back : (r n : ℕ) (m : Machine) (code ws : List ℕ) → notZero m ≡ false → notZero (taking r n m code ws .1) ≡ false
 unfolding taking

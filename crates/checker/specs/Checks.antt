@@ -10,33 +10,33 @@ use Rattle.words.specs.declared.Instruction.{Instruction}
 use Rattle.machine.specs.declared.Effect.{Effect}
 use Rattle.machine.specs.declared.Effect.the-variants as does
 use Rattle.machine.specs.declared.Region.{Region}
-use Rattle.machine.specs.Effects.{one-of, State, act, moved, illegal, access, askew, modeSet}
+use Rattle.machine.specs.Effects.{one-of, State, act, moved, illegal, access, unaligned, askew, modeSet}
 use Rattle.machine.specs.Record.{holds, wordAt, first}
 
 -- ---- The assembler machine runs only: lw, sw, movs2i, movi2s, add, sub, slli, srli, addi, lhgi, andi, ori, xori, sne, sgr, sge, beqz, bnez, jal, jr
 
 -- The opcodes of the I and J words among them: lw, sw, addi, lhgi, andi, ori, xori, beqz, bnez, jal, jr
-abbrev pub runsOpcode : ℕ → Bool
-runsOpcode n = one-of n (0x23 ∷ 0x2B ∷ 0x09 ∷ 0x0F ∷ 0x0C ∷ 0x0D ∷ 0x0E ∷ 0x04 ∷ 0x05 ∷ 0x03 ∷ 0x16 ∷ [])
+abbrev pub admitsOpcode : ℕ → Bool
+admitsOpcode n = one-of n (0x23 ∷ 0x2B ∷ 0x09 ∷ 0x0F ∷ 0x0C ∷ 0x0D ∷ 0x0E ∷ 0x04 ∷ 0x05 ∷ 0x03 ∷ 0x16 ∷ [])
 
 -- The functions of the R words among them: movs2i, movi2s, add, sub, slli, srli, sne, sgr, sge
-abbrev pub runsFunction : ℕ → Bool
-runsFunction n = one-of n (0x10 ∷ 0x11 ∷ 0x21 ∷ 0x23 ∷ 0x00 ∷ 0x02 ∷ 0x2D ∷ 0x29 ∷ 0x2B ∷ [])
+abbrev pub admitsFunction : ℕ → Bool
+admitsFunction n = one-of n (0x10 ∷ 0x11 ∷ 0x21 ∷ 0x23 ∷ 0x00 ∷ 0x02 ∷ 0x2D ∷ 0x29 ∷ 0x2B ∷ [])
 
-abbrev pub runsForm : Form → Bool
-runsForm (formR a b d s n) = runsFunction n
-runsForm (formI n a d m) = runsOpcode n
-runsForm (formJ n m) = runsOpcode n
+abbrev pub admitsForm : Form → Bool
+admitsForm (formR a b d s n) = admitsFunction n
+admitsForm (formI n a d m) = admitsOpcode n
+admitsForm (formJ n m) = admitsOpcode n
 
-unfoldable pub runs : Instruction → Bool
-runs i = runsForm (form i)
+unfoldable pub admits : Instruction → Bool
+admits i = admitsForm (form i)
 
 -- ---- The tests, of a word w and its effect e
 
 -- 23: the word is illegal is `illegal` of the word
 -- 24: the word is legal but not one the assembler machine runs
 unfoldable pub foreign : ℕ → Bool
-foreign w = elim (reading w .1) [ some i ↦ not (runs i) | none ↦ false ]
+foreign w = elim (reading w .1) [ some i ↦ not (admits i) | none ↦ false ]
 
 -- 25: lw or sw, ea not a multiple of 4 (the size of both) is `askew` of the effect
 -- 26: lw or sw, ea outside the data region
@@ -55,7 +55,7 @@ violation c d code s =
     let w = fetched c code s in
     let e = act w s .0 in
     first
-    ((not (eqb (s .dpc % 4) 0), 21)
+    ((unaligned 4 (s .dpc), 21)
     ∷ (not (holds c (s .dpc)), 22)
     ∷ (illegal w, 23)
     ∷ (foreign w, 24)

@@ -8,7 +8,7 @@ use Rattle.words.specs.Fields.{pick}
 use Rattle.machine.specs.declared.Machine.{Machine}
 use Rattle.machine.specs.declared.Region.{Region}
 use Rattle.machine.specs.Effects.{State}
-use Rattle.machine.specs.Record.{LONGEST, wrongCount, oddStart, pastMemory, overlap, notZero, overLimit, stateOf, withState, first}
+use Rattle.machine.specs.Record.{LONGEST, wrongCount, unalignedStart, pastMemory, overlap, notZero, overLimit, stateOf, withState, first}
 use Rattle.checker.specs.declared.Verdict.{Verdict}
 use Rattle.checker.specs.declared.Verdict.the-variants.{Refused, Accepted, Violation}
 use Rattle.checker.specs.Checks.{fetched, violation, next}
@@ -46,7 +46,7 @@ abbrev pub tests : Machine → ℕ → ℕ → List (Bool × ℕ)
 tests m code ws =
     (wrongLength code ws, 1)
     ∷ (wrongCount m, 6)
-    ∷ (oddStart m, 8)
+    ∷ (unalignedStart m, 8)
     ∷ (pastMemory m, 9)
     ∷ (overlap m, 10)
     ∷ (notZero m, 11)

@@ -1,7 +1,7 @@
 // The twenty instructions that the assembler machine runs.
 ghost use mathlib.Core.Path.{_≡_};
 ghost use Rattle.words.specs.Words.{shiftImmediateNo, arithmeticRegisterNo, arithmeticImmediateNo, compareRegisterNo, loadNo, storeNo};
-ghost use Rattle.checker.specs.Checks.{runs, runsOpcode, runsFunction};
+ghost use Rattle.checker.specs.Checks.{admits, admitsOpcode, admitsFunction};
 use words::Arithmetic;
 use words::Comparison;
 use words::Instruction;
@@ -10,7 +10,7 @@ use words::Shift;
 use words::StoreKind;
 
 pub(crate) fn admits(instruction: Instruction) -> bool
-    ensures { λ r. ⌜ r ≡ runs instruction ⌝ }
+    ensures { λ r. ⌜ r ≡ admits instruction ⌝ }
 {
     match instruction {
         Instruction::ShiftImmediate(s, _, _, _) => shift(s),
@@ -42,7 +42,7 @@ pub(crate) fn admits(instruction: Instruction) -> bool
 
 // slli, srli.
 fn shift(member: Shift) -> bool
-    ensures { λ r. ⌜ r ≡ runsFunction (shiftImmediateNo member) ⌝ }
+    ensures { λ r. ⌜ r ≡ admitsFunction (shiftImmediateNo member) ⌝ }
 {
     match member {
         Shift::Sll => true,
@@ -54,7 +54,7 @@ fn shift(member: Shift) -> bool
 
 // add, sub.
 fn register(member: Arithmetic) -> bool
-    ensures { λ r. ⌜ r ≡ runsFunction (arithmeticRegisterNo member) ⌝ }
+    ensures { λ r. ⌜ r ≡ admitsFunction (arithmeticRegisterNo member) ⌝ }
 {
     match member {
         Arithmetic::Addo => false,
@@ -69,7 +69,7 @@ fn register(member: Arithmetic) -> bool
 
 // addi, andi, ori, xori.
 fn immediate(member: Arithmetic) -> bool
-    ensures { λ r. ⌜ r ≡ runsOpcode (arithmeticImmediateNo member) ⌝ }
+    ensures { λ r. ⌜ r ≡ admitsOpcode (arithmeticImmediateNo member) ⌝ }
 {
     match member {
         Arithmetic::Addo => false,
@@ -84,7 +84,7 @@ fn immediate(member: Arithmetic) -> bool
 
 // sgr, sge, sne.
 fn compare(member: Comparison) -> bool
-    ensures { λ r. ⌜ r ≡ runsFunction (compareRegisterNo member) ⌝ }
+    ensures { λ r. ⌜ r ≡ admitsFunction (compareRegisterNo member) ⌝ }
 {
     match member {
         Comparison::Sgr => true,
@@ -98,7 +98,7 @@ fn compare(member: Comparison) -> bool
 
 // lw.
 fn load(member: LoadKind) -> bool
-    ensures { λ r. ⌜ r ≡ runsOpcode (loadNo member) ⌝ }
+    ensures { λ r. ⌜ r ≡ admitsOpcode (loadNo member) ⌝ }
 {
     match member {
         LoadKind::Lb => false,
@@ -111,7 +111,7 @@ fn load(member: LoadKind) -> bool
 
 // sw.
 fn store(member: StoreKind) -> bool
-    ensures { λ r. ⌜ r ≡ runsOpcode (storeNo member) ⌝ }
+    ensures { λ r. ⌜ r ≡ admitsOpcode (storeNo member) ⌝ }
 {
     match member {
         StoreKind::Sb => false,

@@ -55,9 +55,9 @@ pub(crate) fn step(
             }
             let act = machine::meaning(instruction, pc, gpr, spr);
             let effect = act.effect;
-            let broken = judge(effect, accesses);
-            if broken != 0 {
-                return Moved::Stopped(broken, word);
+            let number = first_broken(effect, accesses);
+            if number != 0 {
+                return Moved::Stopped(number, word);
             }
             let loaded = access(effect, accesses, words);
             let onward = machine::apply(effect, loaded, pc, gpr, spr);
@@ -67,15 +67,15 @@ pub(crate) fn step(
 }
 
 // The number of the first of the tests 25 to 27 that an effect breaks, or 0.
-fn judge(effect: Effect, region: Region) -> u32
+fn first_broken(effect: Effect, region: Region) -> u32
     ensures { λ r. ⌜ r ≡ first ((askew effect, 25) ∷ (outside region effect, 26) ∷ (modeSet effect, 27) ∷ []) 0 ⌝ }
 {
     match effect {
         Effect::Put(_, _) => 0,
-        Effect::PutSpecial(number, value) => judge_mode(number, value),
+        Effect::PutSpecial(number, value) => broken_mode(number, value),
         Effect::Sum(_, _, _) => 0,
-        Effect::Load(kind, _, ea) => judge_access(load_askew(kind, ea), ea, region),
-        Effect::Store(kind, ea, _) => judge_access(store_askew(kind, ea), ea, region),
+        Effect::Load(kind, _, ea) => broken_access(load_askew(kind, ea), ea, region),
+        Effect::Store(kind, ea, _) => broken_access(store_askew(kind, ea), ea, region),
         Effect::Trap(_) => 0,
         Effect::Return => 0,
         Effect::Nothing => 0,
@@ -83,7 +83,7 @@ fn judge(effect: Effect, region: Region) -> u32
 }
 
 // Tests 25 and 26 of an address, whose alignment is known.
-fn judge_access(skew: bool, ea: u32, region: Region) -> u32
+fn broken_access(skew: bool, ea: u32, region: Region) -> u32
     ensures { λ r. ⌜ r ≡ accessNumber skew region ea ⌝ }
 {
     if skew {
@@ -96,7 +96,7 @@ fn judge_access(skew: bool, ea: u32, region: Region) -> u32
 }
 
 // Test 27 of a write to a special register.
-fn judge_mode(number: u8, value: u32) -> u32
+fn broken_mode(number: u8, value: u32) -> u32
     ensures { λ r. ⌜ r ≡ modeNumber number value ⌝ }
 {
     if number as usize != Machine::MODE {

@@ -3,10 +3,10 @@ ghost use mathlib.Core.Path.{_≡_};
 ghost use Rattle.checker.specs.Runs.{stepRefusal, runRefusal};
 use machine::Machine;
 use machine::refusals::not_zero;
-use machine::refusals::odd_start;
 use machine::refusals::over_limit;
 use machine::refusals::overlaps;
 use machine::refusals::past_memory;
+use machine::refusals::unaligned_start;
 use machine::refusals::wrong_count;
 
 // The number of the refusal that a step answers, or 0.
@@ -22,7 +22,7 @@ pub(crate) fn of_step(machine: Machine, code: usize, words: usize) -> u32
     if wrong_count(machine) {
         return 6;
     }
-    if odd_start(machine) {
+    if unaligned_start(machine) {
         return 8;
     }
     if past_memory(machine) {

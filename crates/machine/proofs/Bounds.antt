@@ -28,7 +28,7 @@ use Rattle.words.proofs.Numbering.{filled}
 use Rattle.words.proofs.Again.{read-filled}
 use Rattle.machine.specs.declared.Effect.{Effect}
 use Rattle.machine.specs.declared.Effect.the-variants as does
-use Rattle.machine.specs.Rulings.{plus, minus, integer, sext, shifted, bit, holds, compared, beyond}
+use Rattle.machine.specs.Rulings.{plus, minus, integer, sext, high, shifted, bit, satisfies, compared, beyond}
 use Rattle.machine.specs.Effects.{State, register, put, putSpecial, computed, meaning, applied, act, moved, thirteen, one-of, SR, ESR}
 use Rattle.machine.proofs.Acts.{word-reads, act-reads, act-illegal}
 use Rattle.machine.proofs.Integers.{integer-low, integer-high}
@@ -65,7 +65,7 @@ bit-small true = omega arith
 bit-small false = omega arith
 
 compared-small : (k : Comparison) (a b : ℕ) → compared k a b < 2 ^ 32
-compared-small k a b = bit-small (holds k a b)
+compared-small k a b = bit-small (satisfies k a b)
 
 sext-small : (z : ℤ) (n : ℕ) → z ≡ pos n → n < 2 ^ 32 → sext z < 2 ^ 32
 unfolding sext
@@ -113,7 +113,8 @@ immediate-small : (w : ℕ) → sext (immediate16 w) < 2 ^ 32
 unfolding immediate16
 immediate-small w = signed-small (w % 2 ^ 16) (omega arith)
 
-high-small : (x : ℕ) → x % 2 ^ 16 * 65536 < 2 ^ 32
+high-small : (x : ℕ) → high x < 2 ^ 32
+unfolding high
 high-small x = omega arith
 
 -- By the instruction, with the word's fields

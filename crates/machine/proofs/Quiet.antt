@@ -14,21 +14,21 @@ use Rattle.machine.specs.declared.Machine.{Machine}
 use Rattle.machine.specs.declared.Effect.{Effect}
 use Rattle.machine.specs.declared.Effect.the-variants as does
 use Rattle.machine.specs.Effects.{State, register, put, putSpecial, applied, act, moved, modeSet, one-of, thirteen, SR, ESR, MODE}
-use Rattle.machine.specs.Record.{some, idleSet, notZero}
+use Rattle.machine.specs.Record.{anyBelow, idle, idleSet, notZero}
 use Rattle.machine.proofs.Special.{loud, loud-not}
 
 -- Nothing of a list passes a test, number by number
-none-passes : (p : ℕ → Bool) (n : ℕ) → some p n ≡ false → (k : ℕ) → k < n → p k ≡ false
+none-passes : (p : ℕ → Bool) (n : ℕ) → anyBelow p n ≡ false → (k : ℕ) → k < n → p k ≡ false
 none-passes p zero e k l = absurd (omega arith)
 none-passes p (suc n) e k l = by (p n) refl e (eqb k n) refl (none-passes p n)
   where
-    by : (t : Bool) → p n ≡ t → (t || some p n) ≡ false → (u : Bool) → eqb k n ≡ u
-        → (some p n ≡ false → (k : ℕ) → k < n → p k ≡ false) → p k ≡ false
+    by : (t : Bool) → p n ≡ t → (t || anyBelow p n) ≡ false → (u : Bool) → eqb k n ≡ u
+        → (anyBelow p n ≡ false → (k : ℕ) → k < n → p k ≡ false) → p k ≡ false
     by true f e u q next = absurd (false-true (sym e))
     by false f e true q next = ap p (eqb-true k n q) ∙ f
     by false f e false q next = next e k (let r : k ≡ n → ⊥ = eqb-false k n q in omega arith)
 
-each-fails : (p : ℕ → Bool) (n : ℕ) → ((k : ℕ) → k < n → p k ≡ false) → some p n ≡ false
+each-fails : (p : ℕ → Bool) (n : ℕ) → ((k : ℕ) → k < n → p k ≡ false) → anyBelow p n ≡ false
 each-fails p zero f = refl
 each-fails p (suc n) f = rw (f n (omega arith)) (each-fails p n (λ k l. f k (omega arith)))
 
@@ -99,3 +99,17 @@ quiet-record m e = by (eqb (getD (m .gpr) 0 0) 0) refl e
 pub record-quiet : (m : Machine) → Quiet (m .gpr) (m .spr) → notZero m ≡ false
 unfolding notZero
 record-quiet m q = rw (eq-eqb (getD (m .gpr) 0 0) 0 (q .zero-register)) (q .idle-registers)
+
+-- ---- "R0 is always 0", and "the others read zero"
+
+pub record ReadsZero (s : State) : Type 0 where
+  pub zeroth : register (s .gpr) 0 ≡ 0
+  -- An unused special register, and MODE
+  pub unused : (n : ℕ) → idle (n % 32) ≡ true → register (s .spr) n ≡ 0
+
+pub quiet-reads : (s : State) → Quiet (s .gpr) (s .spr) → ReadsZero s
+unfolding register idleSet
+quiet-reads s q = record { zeroth = q .zero-register; unused = λ n i. silent n i (none-passes (loud (s .spr)) 32 (q .idle-registers) (n % 32) (omega arith)) }
+  where
+    silent : (n : ℕ) → idle (n % 32) ≡ true → loud (s .spr) (n % 32) ≡ false → getD (s .spr) (n % 32) 0 ≡ 0
+    silent n i l = eqb-true (getD (s .spr) (n % 32) 0) 0 (not-false (eqb (getD (s .spr) (n % 32) 0) 0) (rw i at l))

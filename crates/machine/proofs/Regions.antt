@@ -11,7 +11,7 @@ use Rattle.words.specs.Fields.{pick}
 use Rattle.words.proofs.Signed.{false-true}
 use Rattle.machine.specs.declared.Machine.{Machine}
 use Rattle.machine.specs.declared.Region.{Region}
-use Rattle.machine.specs.Record.{LONGEST, MEMORY, holds, wrongCount, oddStart, pastMemory, overlap, wordAt, image}
+use Rattle.machine.specs.Record.{LONGEST, MEMORY, holds, wrongCount, unalignedStart, pastMemory, later, overlap, wordAt, image}
 
 -- ---- Tests that are joined
 
@@ -46,9 +46,9 @@ module _ (m : Machine) where
     ltb-false LONGEST (m .«data» .words) (either-right (eqb (m .code .words) 0 || ltb LONGEST (m .code .words)) _ e),
   )
 
-  pub even-starts : oddStart m ≡ false → (m .code .start % 4 ≡ 0) × (m .«data» .start % 4 ≡ 0)
-  unfolding oddStart
-  even-starts e = (
+  pub aligned-starts : unalignedStart m ≡ false → (m .code .start % 4 ≡ 0) × (m .«data» .start % 4 ≡ 0)
+  unfolding unalignedStart
+  aligned-starts e = (
     eqb-true (m .code .start % 4) 0 (not-false (eqb (m .code .start % 4) 0) (either-left (not (eqb (m .code .start % 4) 0)) _ e)),
     eqb-true (m .«data» .start % 4) 0 (not-false (eqb (m .«data» .start % 4) 0) (either-right (not (eqb (m .code .start % 4) 0)) _ e)),
   )
@@ -93,52 +93,47 @@ abbrev pub Disjoint : Region → Region → Type 0
 Disjoint c d = (a : ℕ) → holds c a ≡ true → holds d a ≡ true → ⊥
 
 module _ (m : Machine) where
-  -- Where an address is in both, one region holds the start of the other
+  -- Where an address is in both, so is the later of the two starts
   pub shared-overlaps : Shared m → overlap m ≡ true
   unfolding overlap
-  shared-overlaps s =
-      let h : (m .code .start ≤ s .address) × (s .address < m .code .start + 4 * m .code .words) = holds-yes (m .code) (s .address) (s .in-code) in
-      let k : (m .«data» .start ≤ s .address) × (s .address < m .«data» .start + 4 * m .«data» .words) = holds-yes (m .«data») (s .address) (s .in-data) in
-      rw (ne-eqb (m .«data» .words) 0 (omega arith)) (by h k (leb (m .«data» .start) (m .code .start)) refl)
+  shared-overlaps s = by (ltb (m .code .start) (m .«data» .start)) refl (holds-yes (m .code) (s .address) (s .in-code)) (holds-yes (m .«data») (s .address) (s .in-data))
     where
-      by : (m .code .start ≤ s .address) × (s .address < m .code .start + 4 * m .code .words)
+      by : (t : Bool) → ltb (m .code .start) (m .«data» .start) ≡ t
+          → (m .code .start ≤ s .address) × (s .address < m .code .start + 4 * m .code .words)
           → (m .«data» .start ≤ s .address) × (s .address < m .«data» .start + 4 * m .«data» .words)
-          → (t : Bool) → leb (m .«data» .start) (m .code .start) ≡ t
-          → (holds (m .«data») (m .code .start) || holds (m .code) (m .«data» .start)) ≡ true
-      by h k true e = rw (holds-in (m .«data») (m .code .start) (leb-true (m .«data» .start) (m .code .start) e) (omega arith))
-      by h k false e =
-          let l : m .code .start < m .«data» .start = leb-false (m .«data» .start) (m .code .start) e in
-          rw (holds-in (m .code) (m .«data» .start) (omega arith) (omega arith)) (either-true (holds (m .«data») (m .code .start)))
+          → (holds (m .code) (pick t (m .«data» .start) (m .code .start)) && holds (m .«data») (pick t (m .«data» .start) (m .code .start))) ≡ true
+      by true e h k =
+          let l : m .code .start < m .«data» .start = ltb-true (m .code .start) (m .«data» .start) e in
+          rw (holds-in (m .code) (m .«data» .start) (omega arith) (omega arith)) (holds-in (m .«data») (m .«data» .start) (omega arith) (omega arith))
+      by false e h k =
+          let l : m .«data» .start ≤ m .code .start = ltb-false (m .code .start) (m .«data» .start) e in
+          rw (holds-in (m .code) (m .code .start) (omega arith) (omega arith)) (holds-in (m .«data») (m .code .start) (omega arith) (omega arith))
+
+  pub overlaps-shared : overlap m ≡ true → Shared m
+  unfolding overlap
+  overlaps-shared e =
+      let a = later (m .code .start) (m .«data» .start) in
+      record { address = a; in-code = both-left (holds (m .code) a) (holds (m .«data») a) e; in-data = both-right (holds (m .code) a) (holds (m .«data») a) e }
 
   pub apart-disjoint : overlap m ≡ false → Disjoint (m .code) (m .«data»)
   apart-disjoint e a h k = false-true (sym e ∙ shared-overlaps (record { address = a; in-code = h; in-data = k }))
 
-  -- The other way round the code has to have a word, which test 6 has seen to
-  pub overlaps-shared : wrongCount m ≡ false → overlap m ≡ true → Shared m
-  unfolding overlap
-  overlaps-shared w e = by (holds (m .«data») (m .code .start)) refl
-    where
-      has-code : m .code .words ≡ 0 → ⊥
-      has-code = right-count m w .0
-
-      has-data : m .«data» .words ≡ 0 → ⊥
-      has-data = eqb-false (m .«data» .words) 0 (not-true (eqb (m .«data» .words) 0) (both-left (not (eqb (m .«data» .words) 0)) _ e))
-
-      by : (t : Bool) → holds (m .«data») (m .code .start) ≡ t → Shared m
-      by true h = record { address = m .code .start; in-code = holds-in (m .code) (m .code .start) (omega arith) (let n : m .code .words ≡ 0 → ⊥ = has-code in omega arith); in-data = h }
-      by false h =
-          record {
-            address = m .«data» .start;
-            in-code = rw h at (both-right (not (eqb (m .«data» .words) 0)) _ e);
-            in-data = holds-in (m .«data») (m .«data» .start) (omega arith) (let n : m .«data» .words ≡ 0 → ⊥ = has-data in omega arith);
-          }
-
-  pub disjoint-apart : wrongCount m ≡ false → Disjoint (m .code) (m .«data») → overlap m ≡ false
-  disjoint-apart w d = by (overlap m) refl
+  pub disjoint-apart : Disjoint (m .code) (m .«data») → overlap m ≡ false
+  disjoint-apart d = by (overlap m) refl
     where
       by : (t : Bool) → overlap m ≡ t → t ≡ false
-      by true e = let s = overlaps-shared w e in absurd (d (s .address) (s .in-code) (s .in-data))
+      by true e = let s = overlaps-shared e in absurd (d (s .address) (s .in-code) (s .in-data))
       by false e = refl
+
+  -- Never when D = 0, nor where C is
+  empty-apart : (r : Region) (a : ℕ) → r .words ≡ 0 → holds r a ≡ true → ⊥
+  empty-apart r a z h = let k = holds-yes r a h in omega arith
+
+  pub no-data-apart : m .«data» .words ≡ 0 → overlap m ≡ false
+  no-data-apart z = disjoint-apart (λ a h k. empty-apart (m .«data») a z k)
+
+  pub no-code-apart : m .code .words ≡ 0 → overlap m ≡ false
+  no-code-apart z = disjoint-apart (λ a h k. empty-apart (m .code) a z h)
 
 -- ---- The image of both
 

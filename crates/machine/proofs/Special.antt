@@ -9,7 +9,7 @@ use lib.Dec.{eqb}
 use Rattle.words.proofs.Range.{every-at}
 use Rattle.words.proofs.Signed.{false-true}
 use Rattle.machine.specs.Effects.{one-of, thirteen, EMODE, MODE}
-use Rattle.machine.specs.Record.{idle, some}
+use Rattle.machine.specs.Record.{idle, anyBelow}
 use native.Mathlib.Numerals.{add-one}
 use lib.ListN.{getD}
 
@@ -36,17 +36,17 @@ pub idle-past : (n : ℕ) → EMODE < n → n < 32 → idle n ≡ true
 idle-past n l h = every-at idle 12 20 tt n (omega arith) (omega arith)
 
 -- A number that passes a test, and one more that does not
-pub some-yes : (p : ℕ → Bool) (n m : ℕ) → n < m → p n ≡ true → some p m ≡ true
-some-yes p n zero l e = absurd (omega arith)
-some-yes p n (suc m) l e = by (eqb n m) refl (p m) refl (some-yes p n m)
+pub any-yes : (p : ℕ → Bool) (n m : ℕ) → n < m → p n ≡ true → anyBelow p m ≡ true
+any-yes p n zero l e = absurd (omega arith)
+any-yes p n (suc m) l e = by (eqb n m) refl (p m) refl (any-yes p n m)
   where
-    by : (t : Bool) → eqb n m ≡ t → (u : Bool) → p m ≡ u → (n < m → p n ≡ true → some p m ≡ true) → (u || some p m) ≡ true
+    by : (t : Bool) → eqb n m ≡ t → (u : Bool) → p m ≡ u → (n < m → p n ≡ true → anyBelow p m ≡ true) → (u || anyBelow p m) ≡ true
     by t d true f rest = refl
     by true d false f rest = let q : true ≡ false = sym e ∙ ap p (eqb-true n m d) ∙ f in absurd (false-true (sym q))
     by false d false f rest = rest (let r : n ≡ m → ⊥ = eqb-false n m d in omega arith) e
 
-pub some-more : (p : ℕ → Bool) (n : ℕ) → some p n ≡ false → p n ≡ false → some p (n + 1) ≡ false
-some-more p n e f = rw (add-one, f) e
+pub any-more : (p : ℕ → Bool) (n : ℕ) → anyBelow p n ≡ false → p n ≡ false → anyBelow p (n + 1) ≡ false
+any-more p n e f = rw (add-one, f) e
 
 -- The test of the special registers, number by number
 abbrev pub loud : List ℕ → ℕ → Bool

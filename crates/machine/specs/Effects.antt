@@ -19,7 +19,7 @@ use Rattle.words.specs.declared.StoreKind.{StoreKind}
 use Rattle.words.specs.declared.StoreKind.the-variants.{Sb, Sh, Sw}
 use Rattle.machine.specs.declared.Effect.{Effect}
 use Rattle.machine.specs.declared.Effect.the-variants as does
-use Rattle.machine.specs.Rulings.{plus, minus, integer, sext, shifted, compared, beyond}
+use Rattle.machine.specs.Rulings.{plus, minus, integer, sext, high, shifted, compared, beyond}
 
 -- ---- The registers
 
@@ -106,7 +106,7 @@ meaning (ShiftRegister s rd rs1 rs2) pc g p = (does.Put rd (shifted s (register 
 meaning (Movs2i rd sa) pc g p = (does.Put rd (register p sa), plus pc 4)
 meaning (Movi2s sa rs1) pc g p = (does.PutSpecial sa (register g rs1), plus pc 4)
 meaning (ArithmeticRegister a rd rs1 rs2) pc g p = (computed a rd (register g rs1) (register g rs2), plus pc 4)
-meaning (Lhg rd rs1) pc g p = (does.Put rd (register g rs1 % 2 ^ 16 * 65536), plus pc 4)
+meaning (Lhg rd rs1) pc g p = (does.Put rd (high (register g rs1)), plus pc 4)
 meaning (Clr rd) pc g p = (does.Put rd 0, plus pc 4)
 meaning (CompareRegister k rd rs1 rs2) pc g p = (does.Put rd (compared k (register g rs1) (register g rs2)), plus pc 4)
 meaning (Set rd) pc g p = (does.Put rd 1, plus pc 4)
@@ -189,9 +189,13 @@ access (does.Trap z) = none
 access does.Return = none
 access does.Nothing = none
 
+-- An address that is not a multiple of a size
+abbrev pub unaligned : ℕ → ℕ → Bool
+unaligned size a = not (eqb (a % size) 0)
+
 -- A load or store with ea not a multiple of its size
 unfoldable pub askew : Effect → Bool
-askew e = elim (access e) [ some p ↦ not (eqb (p .1 % p .0) 0) | none ↦ false ]
+askew e = elim (access e) [ some p ↦ unaligned (p .0) (p .1) | none ↦ false ]
 
 -- movi2s to MODE of a value other than 0
 unfoldable pub modeSet : Effect → Bool

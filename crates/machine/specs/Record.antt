@@ -7,7 +7,7 @@ use lib.ListN.{getD, replicate}
 use Rattle.machine.specs.declared.Machine.{Machine}
 use Rattle.machine.specs.declared.Region.{Region}
 use Rattle.words.specs.Fields.{pick}
-use Rattle.machine.specs.Effects.{one-of, thirteen, MODE, State}
+use Rattle.machine.specs.Effects.{one-of, thirteen, unaligned, MODE, State}
 
 -- A record of zeros
 abbrev pub zeros : Machine
@@ -44,28 +44,33 @@ unfoldable pub wrongCount : Machine → Bool
 wrongCount m = eqb (m .code .words) 0 || ltb LONGEST (m .code .words) || ltb LONGEST (m .«data» .words)
 
 -- 8: a start is not a multiple of 4
-unfoldable pub oddStart : Machine → Bool
-oddStart m = not (eqb (m .code .start % 4) 0) || not (eqb (m .«data» .start % 4) 0)
+unfoldable pub unalignedStart : Machine → Bool
+unalignedStart m = unaligned 4 (m .code .start) || unaligned 4 (m .«data» .start)
 
 -- 9: start + 4 x count exceeds 16,384, as whole numbers, for either region
 unfoldable pub pastMemory : Machine → Bool
 pastMemory m = ltb MEMORY (m .code .start + 4 * m .code .words) || ltb MEMORY (m .«data» .start + 4 * m .«data» .words)
 
--- 10: some address is in both regions (never when D = 0): one region holds the start of the other
+-- 10: some address is in both regions (never when D = 0). Where one is, the later of the two starts is
+abbrev pub later : ℕ → ℕ → ℕ
+later a b = pick (ltb a b) b a
+
 unfoldable pub overlap : Machine → Bool
-overlap m = not (eqb (m .«data» .words) 0) && (holds (m .«data») (m .code .start) || holds (m .code) (m .«data» .start))
+overlap m =
+    let a = later (m .code .start) (m .«data» .start) in
+    holds (m .code) a && holds (m .«data») a
 
 -- Some number below n passes a test
-abbrev pub some : (ℕ → Bool) → ℕ → Bool
-some p zero = false
-some p (suc n) = p n || some p n
+abbrev pub anyBelow : (ℕ → Bool) → ℕ → Bool
+anyBelow p zero = false
+anyBelow p (suc n) = p n || anyBelow p n
 
 -- 11: R0, an unused special register or MODE is not 0
 abbrev pub idle : ℕ → Bool
 idle n = not (one-of n thirteen) || eqb n MODE
 
 unfoldable pub idleSet : List ℕ → Bool
-idleSet p = some (λ n. idle n && not (eqb (getD p n 0) 0)) 32
+idleSet p = anyBelow (λ n. idle n && not (eqb (getD p n 0) 0)) 32
 
 unfoldable pub notZero : Machine → Bool
 notZero m = not (eqb (getD (m .gpr) 0 0) 0) || idleSet (m .spr)

@@ -27,7 +27,7 @@ unfoldable pub sext : ℤ → ℕ
 sext (pos n) = n
 sext (negsuc n) = 2 ^ 32 - (n + 1)
 
--- The low 16 bits of a word times 65,536: lhg of a register, and lhgi of an immediate, which is imm times 65,536 modulo 2 ^ 32
+-- lhg takes the low 16 bits of RS1 times 65,536
 unfoldable pub high : ℕ → ℕ
 high x = x % 2 ^ 16 * 65536
 
@@ -38,21 +38,21 @@ shifted Sla x n = x * 2 ^ (n % 32) % 2 ^ 32
 shifted Srl x n = x / 2 ^ (n % 32)
 shifted Sra x n = sext (shrZ (integer x) (2 ^ (n % 32)))
 
--- Comparisons read both sides as two's complement
-unfoldable pub holds : Comparison → ℕ → ℕ → Bool
-holds Sgr a b = ltZ (integer b) (integer a)
-holds Seq a b = eqb a b
-holds Sge a b = leZ (integer b) (integer a)
-holds Sls a b = ltZ (integer a) (integer b)
-holds Sne a b = not (eqb a b)
-holds Sle a b = leZ (integer a) (integer b)
+-- Comparisons read both sides as two's complement: whether a and b satisfy one
+unfoldable pub satisfies : Comparison → ℕ → ℕ → Bool
+satisfies Sgr a b = ltZ (integer b) (integer a)
+satisfies Seq a b = eqb a b
+satisfies Sge a b = leZ (integer b) (integer a)
+satisfies Sls a b = ltZ (integer a) (integer b)
+satisfies Sne a b = not (eqb a b)
+satisfies Sle a b = leZ (integer a) (integer b)
 
 -- A comparison gives 1 where it holds, else 0
 abbrev pub bit : Bool → ℕ
 bit b = pick b 1 0
 
 abbrev pub compared : Comparison → ℕ → ℕ → ℕ
-compared k a b = bit (holds k a b)
+compared k a b = bit (satisfies k a b)
 
 -- A signed result below -2 ^ 31 or above 2 ^ 31 - 1
 abbrev pub beyond : ℤ → Bool

@@ -1,6 +1,6 @@
 // The tests of a record, by their numbers in the refusal table.
 ghost use mathlib.Core.Path.{_≡_};
-ghost use Rattle.machine.specs.Record.{wrongCount, oddStart, pastMemory, holds, overlap, idleSet, notZero, overLimit};
+ghost use Rattle.machine.specs.Record.{wrongCount, unalignedStart, pastMemory, holds, overlap, later as Record·later, idleSet, notZero, overLimit};
 ghost use Prim.Native.Nat.{_+_, _*_};
 use crate::Machine;
 use crate::Region;
@@ -20,8 +20,8 @@ pub fn wrong_count(machine: Machine) -> bool
 }
 
 // 8: a start is not a multiple of 4.
-pub fn odd_start(machine: Machine) -> bool
-    ensures { λ r. ⌜ r ≡ oddStart machine ⌝ }
+pub fn unaligned_start(machine: Machine) -> bool
+    ensures { λ r. ⌜ r ≡ unalignedStart machine ⌝ }
 {
     if machine.code.start % 4 != 0 {
         return true;
@@ -46,17 +46,22 @@ fn end(region: Region) -> u64
     region.start as u64 + 4 * (region.words as u64)
 }
 
-// 10: some address is in both regions.
+// 10: some address is in both regions. Where one is, the later of the two starts is.
 pub fn overlaps(machine: Machine) -> bool
     ensures { λ r. ⌜ r ≡ overlap machine ⌝ }
 {
-    if machine.data.words == 0 {
+    let start = later(machine.code.start, machine.data.start);
+    if !contains(machine.code, start) {
         return false;
     }
-    if contains(machine.data, machine.code.start) {
-        return true;
-    }
-    contains(machine.code, machine.data.start)
+    contains(machine.data, start)
+}
+
+// The later of two starts.
+fn later(a: u32, b: u32) -> u32
+    ensures { λ r. ⌜ r ≡ Record·later a b ⌝ }
+{
+    if a < b { b } else { a }
 }
 
 // Whether a region holds an address.

@@ -1,15 +1,12 @@
 // Loads and stores by their sizes.
 ghost use mathlib.Core.Path.{_≡_};
-ghost use mathlib.Core.Bool.{not};
-ghost use Prim.Native.Nat.{_%_};
-ghost use lib.Dec.{eqb};
-ghost use Rattle.machine.specs.Effects.{loadSize, storeSize};
+ghost use Rattle.machine.specs.Effects.{loadSize, storeSize, unaligned};
 use words::LoadKind;
 use words::StoreKind;
 
 // Whether an address is no multiple of a load's size.
 pub fn load_askew(kind: LoadKind, ea: u32) -> bool
-    ensures { λ r. ⌜ r ≡ not (eqb (ea % loadSize kind) 0) ⌝ }
+    ensures { λ r. ⌜ r ≡ unaligned (loadSize kind) ea ⌝ }
 {
     match kind {
         LoadKind::Lb => false,
@@ -22,7 +19,7 @@ pub fn load_askew(kind: LoadKind, ea: u32) -> bool
 
 // Whether an address is no multiple of a store's size.
 pub fn store_askew(kind: StoreKind, ea: u32) -> bool
-    ensures { λ r. ⌜ r ≡ not (eqb (ea % storeSize kind) 0) ⌝ }
+    ensures { λ r. ⌜ r ≡ unaligned (storeSize kind) ea ⌝ }
 {
     match kind {
         StoreKind::Sb => false,

@@ -15,7 +15,7 @@ use Rattle.machine.specs.Effects.{act}
 use Rattle.machine.specs.Record.{DOUBLE-WORDS, notZero, stateOf, withState}
 use Rattle.vamp.specs.Memory.{stored}
 use Rattle.vamp.specs.Events.{fetched}
-use Rattle.vamp.specs.Steps.{Vamp, kept, vstep, after, stepping, running}
+use Rattle.vamp.specs.Steps.{Vamp, memoryAfter, vstep, after, stepping, running}
 use Rattle.vamp.proofs.Calls.{either}
 use Rattle.vamp.proofs.Memory.{put-length}
 use Rattle.vamp.proofs.Onward.{step-kept, step-carried}
@@ -26,8 +26,8 @@ stored-length Sb mem a v = put-length 8 mem a v
 stored-length Sh mem a v = put-length 16 mem a v
 stored-length Sw mem a v = put-length 32 mem a v
 
-kept-length : (e : Effect) (mem : List ℕ) → length (kept e mem) ≡ length mem
-unfolding kept
+kept-length : (e : Effect) (mem : List ℕ) → length (memoryAfter e mem) ≡ length mem
+unfolding memoryAfter
 kept-length (does.Put n x) mem = refl
 kept-length (does.PutSpecial n x) mem = refl
 kept-length (does.Sum n x o) mem = refl

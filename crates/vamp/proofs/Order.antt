@@ -9,9 +9,9 @@ use Rattle.words.specs.Fields.{pick}
 use Rattle.words.proofs.Signed.{false-true}
 use Rattle.machine.specs.declared.Effect.{Effect}
 use Rattle.machine.specs.declared.Effect.the-variants as does
-use Rattle.machine.specs.Effects.{illegal, State, act, one-of, askew, modeSet}
+use Rattle.machine.specs.Effects.{illegal, State, act, one-of, unaligned, askew, modeSet}
 use Rattle.machine.specs.Record.{first}
-use Rattle.vamp.specs.Events.{odd, beyond, accessPast, trapped, overflowed, overflowMasked, fetched, events, event, stepped, interrupt, past, mode, ILLEGAL, MISALIGNED, TRAP, OVERFLOW}
+use Rattle.vamp.specs.Events.{unmodelled, accessPast, trapped, overflowed, overflowMasked, fetched, events, event, stepped, interrupt, past, mode, ILLEGAL, MISALIGNED, TRAP, OVERFLOW}
 
 module _ (mem : List ℕ) (s : State) where
   abbrev word : ℕ
@@ -23,16 +23,16 @@ module _ (mem : List ℕ) (s : State) where
   -- ---- The answer, by the tests
 
   -- 1
-  pub event-fetch-odd : odd 4 (s .dpc) ≡ true → event mem s ≡ interrupt MISALIGNED
+  pub event-fetch-unaligned : unaligned 4 (s .dpc) ≡ true → event mem s ≡ interrupt MISALIGNED
   unfolding event
-  event-fetch-odd a = rw (event, a)
+  event-fetch-unaligned a = rw (event, a)
 
   -- 2
-  pub event-fetch-past : odd 4 (s .dpc) ≡ false → beyond (s .dpc) ≡ true → event mem s ≡ past
+  pub event-fetch-past : unaligned 4 (s .dpc) ≡ false → unmodelled (s .dpc) ≡ true → event mem s ≡ past
   unfolding event
   event-fetch-past a b = rw (event, a, b)
 
-  module _ (a : odd 4 (s .dpc) ≡ false) (b : beyond (s .dpc) ≡ false) where
+  module _ (a : unaligned 4 (s .dpc) ≡ false) (b : unmodelled (s .dpc) ≡ false) where
     -- 3
     pub event-illegal : illegal word ≡ true → event mem s ≡ interrupt ILLEGAL
     unfolding event
@@ -52,8 +52,8 @@ module _ (mem : List ℕ) (s : State) where
   -- ---- A step that is taken has passed every test but a masked overflow
 
   pub record Passed : Type 0 where
-    pub fetch-even : odd 4 (s .dpc) ≡ false
-    pub fetch-within : beyond (s .dpc) ≡ false
+    pub fetch-even : unaligned 4 (s .dpc) ≡ false
+    pub fetch-within : unmodelled (s .dpc) ≡ false
     pub legal : illegal word ≡ false
     pub even : askew effect ≡ false
     pub within : accessPast effect ≡ false
@@ -83,8 +83,8 @@ module _ (mem : List ℕ) (s : State) where
   pub passed : event mem s .0 ≡ 0 → Passed
   unfolding event
   passed h =
-      let p = peel (odd 4 (s .dpc)) (interrupt MISALIGNED) _ (λ q. omega arith) h in
-      let q = peel (beyond (s .dpc)) past _ (λ q. omega arith) (p .1) in
+      let p = peel (unaligned 4 (s .dpc)) (interrupt MISALIGNED) _ (λ q. omega arith) h in
+      let q = peel (unmodelled (s .dpc)) past _ (λ q. omega arith) (p .1) in
       let r = peel (illegal word) (interrupt ILLEGAL) _ (λ q. omega arith) (q .1) in
       let t = peel (askew effect) (interrupt MISALIGNED) _ (λ q. omega arith) (r .1) in
       let u = peel (accessPast effect) past _ (λ q. omega arith) (t .1) in

@@ -14,7 +14,7 @@ use Rattle.machine.specs.Effects.{State, act, meaning, applied, moved}
 use Rattle.machine.specs.Record.{MEMORY}
 use Rattle.machine.specs.Effects.{illegal}
 use Rattle.vamp.specs.Events.{fetched, event, interrupt, past, ILLEGAL, MISALIGNED}
-use Rattle.vamp.specs.Steps.{Vamp, found, kept, took, taken, carried, vstep}
+use Rattle.vamp.specs.Steps.{Vamp, found, memoryAfter, took, taken, carried, vstep}
 use Rattle.vamp.specs.Inner.{parts, wordEvent, effectEvent, touched}
 use Rattle.vamp.proofs.Tests.{took-yes, took-not}
 
@@ -52,16 +52,16 @@ module _ (w dpc pc : ℕ) (g p mem : List ℕ) where
     after-is : Effect × ℕ → ℕ × List ℕ × List ℕ → List ℕ → Vamp
     after-is a f m = parts (f .0) (a .1) (f .1) (f .2) m
 
-    carried-is : carried w x ≡ after-is (e, n) (applied e (found e mem) pc g p) (kept e mem)
+    carried-is : carried w x ≡ after-is (e, n) (applied e (found e mem) pc g p) (memoryAfter e mem)
     unfolding moved after-is
-    carried-is = ap (λ (a : Effect × ℕ). after-is a (applied (a .0) (found (a .0) mem) pc g p) (kept (a .0) mem)) acts
+    carried-is = ap (λ (a : Effect × ℕ). after-is a (applied (a .0) (found (a .0) mem) pc g p) (memoryAfter (a .0) mem)) acts
 
     pub performs : b .0 ≡ 0 → (d : ℕ) (g′ p′ : List ℕ) → (d, g′, p′) ≡ applied e l pc g p → (b, parts d n g′ p′ mem′) ≡ taken (wordEvent w (x .0)) w x
     unfolding after-is
     performs h d g′ p′ applies =
         let z : effectEvent e p .0 ≡ 0 = ap (λ (a : ℕ × ℕ). a .0) (sym judges) ∙ h in
         let finds : l ≡ found e mem = ap (λ (z : (ℕ × ℕ) × ℕ × List ℕ). z .1) touches ∙ took-yes _ _ _ z in
-        let keeps : mem′ ≡ kept e mem = ap (λ (z : (ℕ × ℕ) × ℕ × List ℕ). z .2) touches ∙ took-yes _ _ _ z in
+        let keeps : mem′ ≡ memoryAfter e mem = ap (λ (z : (ℕ × ℕ) × ℕ × List ℕ). z .2) touches ∙ took-yes _ _ _ z in
         ap (λ (y : Vamp). (b, y))
         (ap₂ (after-is (e, n)) (applies ∙ ap (λ (v : ℕ). applied e v pc g p) finds) keeps ∙ sym carried-is ∙ sym (took-yes (b .0) (carried w x) x h))
         ∙ ap (λ (a : ℕ × ℕ). taken a w x) (sym word-is)

@@ -7,12 +7,13 @@ use borrow.Author.Tests.{eq-eqb, ne-eqb, eqb-true, not-false, leb-false}
 use lib.Dec.{eqb, leb}
 use Rattle.words.specs.Fields.{pick}
 use Rattle.machine.specs.Record.{MEMORY}
-use Rattle.vamp.specs.Events.{odd, beyond}
+use Rattle.machine.specs.Effects.{unaligned}
+use Rattle.vamp.specs.Events.{unmodelled}
 use Rattle.vamp.specs.Steps.{took}
 use Rattle.vamp.specs.Inner.{accessEvent}
 
 -- An access that is a multiple of its size
-pub even : (size a : ℕ) → odd size a ≡ false → a % size ≡ 0
+pub even : (size a : ℕ) → unaligned size a ≡ false → a % size ≡ 0
 even size a h = eqb-true (a % size) 0 (not-false (eqb (a % size) 0) h)
 
 -- An access with no event
@@ -24,9 +25,9 @@ pub record Inside (t : Bool) (a : ℕ) : Type 0 where
 pub inside : (t : Bool) (a : ℕ) → accessEvent t a .0 ≡ 0 → Inside t a
 unfolding accessEvent
 inside true a h = absurd (let z : _≡_ {A = ℕ} 31 0 = h in omega arith)
-inside false a h = by (beyond a) refl
+inside false a h = by (unmodelled a) refl
   where
-    by : (u : Bool) → beyond a ≡ u → Inside false a
+    by : (u : Bool) → unmodelled a ≡ u → Inside false a
     by true d = absurd (let z : _≡_ {A = ℕ} 32 0 = rw d at h in omega arith)
     by false d = record { aligned = refl; within = leb-false MEMORY a d; clear = rw d }
 

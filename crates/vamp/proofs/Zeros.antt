@@ -9,7 +9,7 @@ use lib.ListN.{length}
 use Rattle.machine.specs.declared.Machine.{Machine}
 use Rattle.machine.specs.Effects.{State, act}
 use Rattle.machine.specs.Record.{DOUBLE-WORDS, notZero, stateOf, withState}
-use Rattle.machine.proofs.Quiet.{Quiet, quiet-moved, quiet-record, record-quiet}
+use Rattle.machine.proofs.Quiet.{Quiet, ReadsZero, quiet-moved, quiet-record, record-quiet, quiet-reads}
 use Rattle.vamp.specs.Events.{fetched, event}
 use Rattle.vamp.specs.Steps.{Vamp, Course, found, vstep, after, onward, start, stepping, running}
 use Rattle.vamp.proofs.Calls.{either}
@@ -40,6 +40,10 @@ pub still-after : (n : ℕ) (x : Vamp) → Still x → Still (after n x)
 unfolding after
 still-after zero x q = q
 still-after (suc n) x q = still-after n (vstep x .1) (still-step x q)
+
+-- "R0 is always 0", and "the others read zero": in every state of a course
+pub reads-zero : (m : Machine) (mem : List ℕ) → notZero m ≡ false → (n : ℕ) → ReadsZero (after n (stateOf m, mem) .0)
+reads-zero m mem z n = quiet-reads (after n (stateOf m, mem) .0) (still-after n (stateOf m, mem) (quiet-record m z))
 
 -- The records that step and run hand back
 pub step-zeros : (m : Machine) (mem : List ℕ) → notZero m ≡ false → notZero (stepping m mem .1) ≡ false

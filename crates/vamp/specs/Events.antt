@@ -7,7 +7,7 @@ use lib.Dec.{eqb, leb}
 use lib.IntN.{ℤ}
 use Rattle.machine.specs.declared.Effect.{Effect}
 use Rattle.machine.specs.declared.Effect.the-variants as does
-use Rattle.machine.specs.Effects.{State, act, register, illegal, access, askew, modeSet, SR}
+use Rattle.machine.specs.Effects.{State, act, register, illegal, access, unaligned, askew, modeSet, SR}
 use Rattle.machine.specs.Record.{MEMORY, first}
 use Rattle.vamp.specs.Memory.{at}
 
@@ -44,20 +44,16 @@ mode = (33, 0)
 
 -- ---- The tests
 
--- Not a multiple of a size
-abbrev pub odd : ℕ → ℕ → Bool
-odd size a = not (eqb (a % size) 0)
-
 -- Past modelled memory
-abbrev pub beyond : ℕ → Bool
-beyond a = leb MEMORY a
+abbrev pub unmodelled : ℕ → Bool
+unmodelled a = leb MEMORY a
 
 -- An illegal word is `illegal` of the word
 -- (A load or store with ea not a multiple of its size is `askew` of the effect)
 
 -- A load or store past modelled memory; one that is a multiple of its size lies in memory wholly or not at all
 unfoldable pub accessPast : Effect → Bool
-accessPast e = elim (access e) [ some p ↦ beyond (p .1) | none ↦ false ]
+accessPast e = elim (access e) [ some p ↦ unmodelled (p .1) | none ↦ false ]
 
 -- trap
 unfoldable pub trapped : Effect → Bool
@@ -93,9 +89,9 @@ overflowMasked p = eqb (register p SR / 2 ^ 6 % 2) 0
 abbrev pub table : ℕ → ℕ → Effect → List ℕ → List (Bool × (ℕ × ℕ))
 table dpc w e p =
     -- 1. DPC not a multiple of 4: bit 2, nothing is fetched
-    (odd 4 dpc, interrupt MISALIGNED) ∷
+    (unaligned 4 dpc, interrupt MISALIGNED) ∷
     -- 2. Fetch past modelled memory: answer 32
-    (beyond dpc, past) ∷
+    (unmodelled dpc, past) ∷
     -- 3. Illegal word: bit 1
     (illegal w, interrupt ILLEGAL) ∷
     -- 4. Load or store with ea not a multiple of its size (1, 2, 4): bit 2

@@ -6,8 +6,8 @@ use lib.ListN.{drop}
 use Rattle.machine.specs.declared.Effect.{Effect}
 use Rattle.machine.specs.Effects.{State, act}
 use Rattle.machine.specs.Record.{first}
-use Rattle.vamp.specs.Events.{table, beyond, stepped, interrupt, past, MISALIGNED}
-use Rattle.vamp.specs.Steps.{Vamp, Course, found, kept, took}
+use Rattle.vamp.specs.Events.{table, unmodelled, stepped, interrupt, past, MISALIGNED}
+use Rattle.vamp.specs.Steps.{Vamp, Course, found, memoryAfter, took}
 
 -- The machine by its counters, its registers and memory
 abbrev pub parts : ℕ → ℕ → List ℕ → List ℕ → List ℕ → Vamp
@@ -26,10 +26,10 @@ effectEvent e p = first (drop 3 (table 0 0 e p)) (stepped 0)
 
 -- Events 4 and 5, of an access at a that is askew or not
 unfoldable pub accessEvent : Bool → ℕ → ℕ × ℕ
-accessEvent t a = first ((t, interrupt MISALIGNED) ∷ (beyond a, past) ∷ []) (stepped 0)
+accessEvent t a = first ((t, interrupt MISALIGNED) ∷ (unmodelled a, past) ∷ []) (stepped 0)
 
 -- The events of an effect, what its load finds, and memory after it
 abbrev pub touched : Effect → List ℕ → List ℕ → (ℕ × ℕ) × ℕ × List ℕ
 touched e p mem =
     let a = effectEvent e p in
-    (a, took (a .0) (found e mem) 0, took (a .0) (kept e mem) mem)
+    (a, took (a .0) (found e mem) 0, took (a .0) (memoryAfter e mem) mem)

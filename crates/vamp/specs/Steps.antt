@@ -29,15 +29,15 @@ found does.Return mem = 0
 found does.Nothing mem = 0
 
 -- Memory after an effect: only a store changes it
-unfoldable pub kept : Effect → List ℕ → List ℕ
-kept (does.Put n x) mem = mem
-kept (does.PutSpecial n x) mem = mem
-kept (does.Sum n x o) mem = mem
-kept (does.Load k n a) mem = mem
-kept (does.Store k a x) mem = stored k mem a x
-kept (does.Trap z) mem = mem
-kept does.Return mem = mem
-kept does.Nothing mem = mem
+unfoldable pub memoryAfter : Effect → List ℕ → List ℕ
+memoryAfter (does.Put n x) mem = mem
+memoryAfter (does.PutSpecial n x) mem = mem
+memoryAfter (does.Sum n x o) mem = mem
+memoryAfter (does.Load k n a) mem = mem
+memoryAfter (does.Store k a x) mem = stored k mem a x
+memoryAfter (does.Trap z) mem = mem
+memoryAfter does.Return mem = mem
+memoryAfter does.Nothing mem = mem
 
 -- The registers and memory of the VAMP machine
 abbrev pub Vamp : Type 0
@@ -47,7 +47,7 @@ Vamp = State × List ℕ
 abbrev pub carried : ℕ → Vamp → Vamp
 carried w x =
     let e = act w (x .0) .0 in
-    (moved w (found e (x .1)) (x .0), kept e (x .1))
+    (moved w (found e (x .1)) (x .0), memoryAfter e (x .1))
 
 -- x where the answer n is 0, else y
 abbrev pub took : {A : Type 0} → ℕ → A → A → A

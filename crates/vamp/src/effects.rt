@@ -3,7 +3,7 @@ ghost use Rattle.machine.specs.Record.{DOUBLE-WORDS};
 ghost use mathlib.Core.Path.{_≡_};
 ghost use lib.ListN.{length};
 ghost use Rattle.machine.specs.Effects.{loadSize, storeSize};
-ghost use Rattle.vamp.specs.Events.{odd};
+ghost use Rattle.machine.specs.Effects.{unaligned};
 ghost use Rattle.vamp.specs.Memory.{loaded, stored};
 ghost use Rattle.vamp.specs.Steps.{answered, took};
 ghost use Rattle.vamp.specs.Inner.{accessEvent, touched};
@@ -48,7 +48,7 @@ fn bare(answer: Answer) -> Touched
 // A load: its events, and what it finds.
 fn find(kind: LoadKind, memory: &[u64], address: u32) -> Touched
     requires { ⌜ length (now memory) ≡ DOUBLE-WORDS ⌝ }
-    ensures { λ r. ⌜ (answered (r .answer) ≡ accessEvent (odd (loadSize kind) address) address) × (r .loaded ≡ took (accessEvent (odd (loadSize kind) address) address .0) (loaded kind (now (memory .entry)) address) 0) ⌝ }
+    ensures { λ r. ⌜ (answered (r .answer) ≡ accessEvent (unaligned (loadSize kind) address) address) × (r .loaded ≡ took (accessEvent (unaligned (loadSize kind) address) address .0) (loaded kind (now (memory .entry)) address) 0) ⌝ }
 {
     let answer = events::access(load_askew(kind, address), address);
     if answer.number() != 0 {
@@ -63,7 +63,7 @@ fn find(kind: LoadKind, memory: &[u64], address: u32) -> Touched
 // A store: its events, and what it puts.
 fn keep(kind: StoreKind, memory: &mut [u64], address: u32, value: u32) -> Answer
     requires { ⌜ length (now memory) ≡ DOUBLE-WORDS ⌝ }
-    ensures { λ r. ⌜ (answered r ≡ accessEvent (odd (storeSize kind) address) address) × (now (memory .exit) ≡ took (accessEvent (odd (storeSize kind) address) address .0) (stored kind (now (memory .entry)) address value) (now (memory .entry))) ⌝ }
+    ensures { λ r. ⌜ (answered r ≡ accessEvent (unaligned (storeSize kind) address) address) × (now (memory .exit) ≡ took (accessEvent (unaligned (storeSize kind) address) address .0) (stored kind (now (memory .entry)) address value) (now (memory .entry))) ⌝ }
 {
     let answer = events::access(store_askew(kind, address), address);
     if answer.number() != 0 {

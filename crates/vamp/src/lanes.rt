@@ -8,7 +8,7 @@ ghost use Rattle.machine.specs.Effects.{storeSize};
 ghost use Rattle.machine.specs.Record.{DOUBLE-WORDS, MEMORY};
 ghost use Rattle.machine.specs.Rulings.{sext};
 ghost use Rattle.vamp.specs.Memory.{part, patch, at, put, loaded, stored};
-ghost use Rattle.vamp.specs.Events.{odd};
+ghost use Rattle.machine.specs.Effects.{unaligned};
 use words::LoadKind;
 use words::StoreKind;
 
@@ -31,7 +31,7 @@ pub(crate) fn load(kind: LoadKind, memory: &[u64], address: u32) -> u32
 
 // The low bits of a value are stored.
 pub(crate) fn store(kind: StoreKind, memory: &mut [u64], address: u32, value: u32)
-    requires { ⌜ (length (now memory) ≡ DOUBLE-WORDS) × (address < MEMORY) × (odd (storeSize kind) address ≡ false) ⌝ }
+    requires { ⌜ (length (now memory) ≡ DOUBLE-WORDS) × (address < MEMORY) × (unaligned (storeSize kind) address ≡ false) ⌝ }
     ensures { λ _. ⌜ now (memory .exit) ≡ stored kind (now (memory .entry)) address value ⌝ }
 {
     match kind {

@@ -3,11 +3,11 @@ use native.Mathlib.Omega.{arith}
 use Rattle.machine.proofs.meaning.Statement.{statement}
 use Rattle.machine.proofs.meaning.Tie as tie
 use Rattle.machine.specs.Effects.{meaning}
-use Rattle.machine.specs.Rulings.{plus, high}
+use Rattle.machine.specs.Rulings.{plus}
 use Rattle.words.proofs.Signed.{kept}
 
 pub meaning-spec : {M : Type 1} → statement M
-unfolding high meaning plus
+unfolding meaning plus
 meaning-spec =
     tie.close
     (tie.spec

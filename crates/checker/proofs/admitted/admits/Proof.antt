@@ -1,11 +1,11 @@
 use borrow.Author.Needs.{needs}
 use Rattle.checker.proofs.admitted.admits.Statement.{statement}
 use Rattle.checker.proofs.admitted.admits.Tie as tie
-use Rattle.checker.specs.Checks.{runs}
+use Rattle.checker.specs.Checks.{admits}
 use Rattle.checker.proofs.Twenty.{no-shift, no-comparison}
 
 pub admits-spec : {M : Type 1} → statement M
-unfolding runs
+unfolding admits
 admits-spec =
     tie.close
     (tie.spec

@@ -4,10 +4,10 @@ use mathlib.Core.Path.{_∙_, ap, sym}
 use Rattle.machine.proofs.Integers.{at-most}
 use Rattle.machine.proofs.arithmetic.compare.Statement.{statement}
 use Rattle.machine.proofs.arithmetic.compare.Tie as tie
-use Rattle.machine.specs.Rulings.{holds, bit, integer}
+use Rattle.machine.specs.Rulings.{satisfies, bit, integer}
 
 pub compare-spec : {M : Type 1} → statement M
-unfolding holds
+unfolding satisfies
 compare-spec =
     tie.close
     (tie.spec

@@ -2,14 +2,14 @@ use Prim.Native.Nat.{_-_, _≤_, _<_}
 use mathlib.Core.Bool.{false}
 use mathlib.Core.Path.{_≡_, refl, sym, ap, _∙_}
 use native.Mathlib.Omega.{arith}
-use Rattle.machine.proofs.Special.{some-yes, some-more, loud, loud-yes, loud-not}
+use Rattle.machine.proofs.Special.{any-yes, any-more, loud, loud-yes, loud-not}
 use Rattle.machine.proofs.refusals.idle_set.Statement.{statement}
 use Rattle.machine.proofs.refusals.idle_set.Tie as tie
 use Rattle.machine.specs.Effects.{EMODE}
-use Rattle.machine.specs.Record.{some, idleSet}
+use Rattle.machine.specs.Record.{anyBelow, idleSet}
 
 abbrev Inv-loop : tie.InvT-loop
-Inv-loop spr n₀ n = (EMODE < n) × (n ≤ 32) × (some (loud spr) n ≡ false)
+Inv-loop spr n₀ n = (EMODE < n) × (n ≤ 32) × (anyBelow (loud spr) n ≡ false)
 
 abbrev μ-loop : tie.MeasureT-loop
 μ-loop spr n₀ n = 32 - n
@@ -28,7 +28,7 @@ element-copy-out-if1 c = omega arith
 
 returns : tie.Need-returns Inv-loop μ-loop
 unfolding idleSet
-returns c = sym (some-yes (loud (c .before .before .before .before .args .spr .now)) (c .before .before .before .loop .n) 32 (omega arith) (loud-yes (c .before .before .before .before .args .spr .now) (c .before .before .before .loop .n) (c .before .before .before .loop .inv .0) (omega arith) (c .if1 .taken)))
+returns c = sym (any-yes (loud (c .before .before .before .before .args .spr .now)) (c .before .before .before .loop .n) 32 (omega arith) (loud-yes (c .before .before .before .before .args .spr .now) (c .before .before .before .loop .n) (c .before .before .before .loop .inv .0) (omega arith) (c .if1 .taken)))
 
 add-n-2 : tie.Need-add-n-2 Inv-loop μ-loop
 add-n-2 c = omega arith
@@ -37,11 +37,11 @@ loop-less : tie.Need-loop-less Inv-loop μ-loop
 loop-less c = omega arith
 
 loop-again : tie.Need-loop-again Inv-loop μ-loop
-loop-again c = (omega arith, omega arith, some-more (loud (c .before .before .before .before .args .spr .now)) (c .before .before .before .loop .n) (c .before .before .before .loop .inv .2) (loud-not (c .before .before .before .before .args .spr .now) (c .before .before .before .loop .n) (c .if1 .left)))
+loop-again c = (omega arith, omega arith, any-more (loud (c .before .before .before .before .args .spr .now)) (c .before .before .before .loop .n) (c .before .before .before .loop .inv .2) (loud-not (c .before .before .before .before .args .spr .now) (c .before .before .before .loop .n) (c .if1 .left)))
 
 returns-2 : tie.Need-returns-2 Inv-loop μ-loop
 unfolding idleSet
-returns-2 c = sym (ap (some (loud (c .before .before .args .spr .now))) (let q : 32 ≡ c .before .loop .n = omega arith in q) ∙ c .before .loop .inv .2)
+returns-2 c = sym (ap (anyBelow (loud (c .before .before .args .spr .now))) (let q : 32 ≡ c .before .loop .n = omega arith in q) ∙ c .before .loop .inv .2)
 
 pub idle-set-spec : {M : Type 1} → statement M
 idle-set-spec =

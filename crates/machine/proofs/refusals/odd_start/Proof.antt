@@ -1,8 +1,0 @@
-use borrow.Author.Tests.{eq-eqb, ne-eqb}
-use Rattle.machine.proofs.refusals.odd_start.Statement.{statement}
-use Rattle.machine.proofs.refusals.odd_start.Tie as tie
-use Rattle.machine.specs.Record.{oddStart}
-
-pub odd-start-spec : {M : Type 1} → statement M
-unfolding oddStart
-odd-start-spec = tie.close (tie.spec (λ c. rw (ne-eqb _ _ (c .if1 .taken))) (λ c. rw (eq-eqb _ _ (c .before .if1 .left))))
