@@ -6,9 +6,13 @@ mod fields;
 mod fills;
 mod table;
 
+use fields::BODY;
 use fills::work;
 use machine::Machine;
 use table::refusal_of;
+
+// The bytes of the longest card that loads.
+pub const LONGEST: usize = BODY + 4 * (Machine::WORDS + Machine::WORDS);
 
 // The answer of a load: the number of the refusal, or loaded.
 pub enum Answer {

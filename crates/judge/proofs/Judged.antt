@@ -5,7 +5,7 @@ use mathlib.Core.Bool.{Bool, true, false}
 use mathlib.Core.List.{List, [], _∷_}
 use mathlib.Core.Logic.{_⊎_, inl, inr}
 use native.Mathlib.Omega.{arith}
-use borrow.Author.Tests.{eqb-true, eqb-false, lt-ltb}
+use borrow.Author.Tests.{eqb-true, eqb-false, ne-eqb, lt-ltb}
 use lib.Dec.{eqb}
 use lib.ListN.{length, getD}
 use Rattle.machine.specs.declared.Machine.{Machine}
@@ -59,7 +59,8 @@ untold-running c d code n dpc p = by (ends c d code n p)
     by (inl f) = rw (accepts c d code 0 n p f) (λ l. refl)
     by (inr f) =
         let v = violation c d code (after c d code (f .0) p .0) in
-        rw (stops-at c d code 0 n (f .0) v p (f .1) (f .2) refl (f .3)) (λ l. rw (lt-ltb v 23 l))
+        let z = f .3 in
+        rw (stops-at c d code 0 n (f .0) v p (f .1) (f .2) refl (f .3), ne-eqb v 0 (omega arith)) (λ l. rw (lt-ltb v 23 l))
 
 untold : (card : List ℕ) → Untold (judging card)
 untold card = by (eqb (refusedBy card) 0) refl

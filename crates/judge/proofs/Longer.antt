@@ -26,9 +26,9 @@ tab-same f g zero h = refl
 tab-same f g (suc n) h = rw (tab-same f g n (λ i l. h i (omega arith)), h n (omega arith))
 
 -- Counts that are not refused fit no length beyond the longest
-beyond : (n : ℕ) (m : Machine) → LONGEST-CARD < n → wrongCount m ≡ false → wrongSize n m ≡ true
+too-long : (n : ℕ) (m : Machine) → LONGEST-CARD < n → wrongCount m ≡ false → wrongSize n m ≡ true
 unfolding wrongSize
-beyond n m l e =
+too-long n m l e =
     let k = right-count m e in
     let a = k .1 in
     let b = k .2 in
@@ -88,7 +88,7 @@ module _ (card : List ℕ) (n : ℕ) (l : LONGEST-CARD < n) (h : n ≤ length ca
       by true e = rw (short (take n card) (rw size l), short card (omega arith), mark, version, reserved, same-record, e)
       by false e =
           rw
-          (short (take n card) (rw size l), short card (omega arith), mark, version, reserved, same-record, e, beyond (length (take n card)) (recordOf card) (rw size l) e, beyond (length card) (recordOf card) (omega arith) e)
+          (short (take n card) (rw size l), short card (omega arith), mark, version, reserved, same-record, e, too-long (length (take n card)) (recordOf card) (rw size l) e, too-long (length card) (recordOf card) (omega arith) e)
 
   long-cut : judging (take n card) ≡ judging card
   long-cut =

@@ -1,6 +1,6 @@
 -- What is said of a card: loaded, then run.
 use Prim.Native.Nat.{ℕ}
-use mathlib.Core.List.{List, [], _∷_}
+use mathlib.Core.List.{List, [], _∷_, _++_}
 use lib.Dec.{eqb}
 use Rattle.words.specs.Fields.{pick}
 use Rattle.machine.specs.Record.{DOUBLE-WORDS, LONGEST}
@@ -16,11 +16,9 @@ answerOf (Refused n) = (n, [])
 answerOf (Accepted n d) = (0, n ∷ d ∷ [])
 answerOf (Violation v k d w) = (v, k ∷ d ∷ w ∷ [])
 
--- A run's answer with the DPC that it leaves: the one answer with a single value, accepted, tells it after the steps
+-- A run's answer with the DPC that it leaves: accepted (0) tells it after the steps
 abbrev pub ruled : ℕ × List ℕ → ℕ → ℕ × List ℕ
-ruled (v, []) dpc = (v, [])
-ruled (v, k ∷ []) dpc = (v, k ∷ dpc ∷ [])
-ruled (v, k ∷ d ∷ ws) dpc = (v, k ∷ d ∷ ws)
+ruled o dpc = pick (eqb (o .0) 0) (o .0, o .1 ++ dpc ∷ []) o
 
 -- The run of a card's record, over the buffers that loading leaves: its answer, record and data
 abbrev pub ranOf : List ℕ → (ℕ × List ℕ) × Machine × List ℕ

@@ -3,9 +3,9 @@ ghost use Prim.Native.Nat.{_≤_};
 ghost use mathlib.Core.Path.{_≡_};
 ghost use lib.ListN.{length};
 ghost use Rattle.machine.specs.Record.{DOUBLE-WORDS, LONGEST};
-ghost use Rattle.checker.specs.Runs.{verdictAnswer};
-ghost use Rattle.judge.specs.Judging.{answerOf, ruled, judging};
+ghost use Rattle.judge.specs.Judging.{answerOf, judging};
 ghost use Rattle.judge.specs.Line.{lineOf, textOf, hex as Line·hex};
+ghost use Rattle.judge.specs.Work.{rulingOf};
 
 mod digits;
 mod lines;
@@ -58,7 +58,7 @@ fn judge_in(card: &[u8], code: &mut [u32], words: &mut [u32], memory: &mut [u64]
 
 // A run's outcome as a ruling.
 fn ruling_of(outcome: Outcome) -> Ruling
-    ensures { λ r. ⌜ answerOf r ≡ ruled (verdictAnswer (outcome .verdict)) (outcome .machine .dpc) ⌝ }
+    ensures { λ r. ⌜ answerOf r ≡ rulingOf (outcome .verdict) (outcome .machine .dpc) ⌝ }
 {
     let verdict = outcome.verdict;
     let machine = outcome.machine;

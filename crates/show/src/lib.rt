@@ -5,9 +5,9 @@ ghost use Prim.Native.Nat.{_/_, _%_, _^_};
 use judge::hex;
 use libc::STDOUT_FILENO;
 
-// Room for a card: one byte more than the longest that loads, 292 + 4 x 2,048. What a longer card has past it cannot change
-// the answer: proofs/Longer.antt of judge.
-pub const ROOM: usize = 8485;
+// Room for a card: one byte more than the longest that loads. What a longer card has past it cannot change the answer:
+// proofs/Longer.antt of judge.
+pub const ROOM: usize = card::LONGEST + 1;
 
 // The general registers, and as many special ones.
 pub const REGISTERS: usize = 32;
