@@ -5,7 +5,9 @@ use mathlib.Core.List.{List, [], _∷_, _++_}
 use lib.ListN.{length, replicate}
 use Rattle.machine.specs.Record.{DOUBLE-WORDS, LONGEST}
 use Rattle.card.specs.Card.{Bytes, refusal, recordOf}
+use Rattle.vamp.specs.Events.{stepped, interrupt, mode, MISALIGNED, ILLEGAL}
 use Rattle.agreement.specs.Demand.{checker}
+use Rattle.agreement.specs.Calls.{ran, sailed}
 
 -- A number of 32 bits in four bytes, the lowest first, and a list of them
 abbrev pub little : ℕ → List ℕ
@@ -21,14 +23,15 @@ card limit code words =
     83 ∷ 78 ∷ 68 ∷ 1 ∷ 0 ∷ 0 ∷ 0 ∷ 0 ∷
     littles (0 ∷ length code ∷ 256 ∷ length words ∷ 0 ∷ 4 ∷ limit ∷ []) ++ littles (replicate 64 0) ++ littles code ++ littles words
 
--- A card, a count of steps, and what the checker answers for it
+-- A card, a count of steps, what the checker answers for it, and what the VAMP does: the steps it takes, its last answer, and how many of them reported a cause
 pub record Example : Type 0 where
   pub of-card : List ℕ
   pub count : ℕ
   pub answers : ℕ × List ℕ
+  pub sails : ℕ × (ℕ × ℕ) × ℕ
 
-abbrev pub example : List ℕ → ℕ → ℕ × List ℕ → Example
-example c n a = record { of-card = c; count = n; answers = a }
+abbrev pub example : List ℕ → ℕ → ℕ × List ℕ → ℕ × (ℕ × ℕ) × ℕ → Example
+example c n a v = record { of-card = c; count = n; answers = a; sails = v }
 
 -- Four data words
 abbrev pub four : List ℕ
@@ -38,41 +41,66 @@ four = 0 ∷ 0 ∷ 0 ∷ 0 ∷ []
 abbrev pub loop : List ℕ
 loop = card 1000000 (0x24210001 ∷ 0xAC010100 ∷ 0x1000FFF4 ∷ 0 ∷ []) four
 
-abbrev pub examples : List Example
-examples =
-    -- The whole case of document 01
-    example (card 10 (0x2401FFFC ∷ 0x8C220008 ∷ 0 ∷ []) four) 10 (26, 1 ∷ 4 ∷ 0x8C220008 ∷ [])
-    -- Accepted, at every count up to 6 and at a later one
-    ∷ example loop 0 (0, 0 ∷ [])
-    ∷ example loop 1 (0, 1 ∷ [])
-    ∷ example loop 2 (0, 2 ∷ [])
-    ∷ example loop 3 (0, 3 ∷ [])
-    ∷ example loop 4 (0, 4 ∷ [])
-    ∷ example loop 5 (0, 5 ∷ [])
-    ∷ example loop 6 (0, 6 ∷ [])
-    ∷ example loop 30 (0, 30 ∷ [])
-    -- 21: addi r1,r0,2; jr r1; nop
-    ∷ example (card 10 (0x24010002 ∷ 0x58200000 ∷ 0 ∷ []) four) 10 (21, 3 ∷ 2 ∷ 0 ∷ [])
-    -- 22: nop, and past the code
-    ∷ example (card 10 (0 ∷ []) four) 10 (22, 1 ∷ 4 ∷ 0 ∷ [])
-    -- 23: opcode 01
-    ∷ example (card 10 (0x04000000 ∷ []) four) 10 (23, 0 ∷ 0 ∷ 0x04000000 ∷ [])
-    -- 24: j 0
-    ∷ example (card 10 (0x08000000 ∷ []) four) 10 (24, 0 ∷ 0 ∷ 0x08000000 ∷ [])
-    -- 25: lw r1,r0(257)
-    ∷ example (card 10 (0x8C010101 ∷ []) four) 10 (25, 0 ∷ 0 ∷ 0x8C010101 ∷ [])
-    -- 26: lw r1,r0(272)
-    ∷ example (card 10 (0x8C010110 ∷ []) four) 10 (26, 0 ∷ 0 ∷ 0x8C010110 ∷ [])
-    -- 27: addi r1,r0,1; movi2s SPR[16],r1
-    ∷ example (card 10 (0x24010001 ∷ 0x00200411 ∷ []) four) 10 (27, 1 ∷ 4 ∷ 0x00200411 ∷ [])
-    ∷ []
+-- The whole case of document 01
+abbrev pub whole-case : Example
+whole-case = example (card 10 (0x2401FFFC ∷ 0x8C220008 ∷ 0 ∷ []) four) 10 (26, 1 ∷ 4 ∷ 0x8C220008 ∷ []) (10, stepped 0, 0)
 
--- An example holds: the loader accepts its card, the count is within its limit, and the checker answers so
+-- Accepted at a count
+abbrev pub looping : ℕ → Example
+looping n = example loop n (0, n ∷ []) (n, stepped 0, 0)
+
+-- 21: addi r1,r0,2; jr r1; nop
+abbrev pub stop-21 : Example
+stop-21 = example (card 10 (0x24010002 ∷ 0x58200000 ∷ 0 ∷ []) four) 10 (21, 3 ∷ 2 ∷ 0 ∷ []) (3, interrupt MISALIGNED, 0)
+
+-- 22: nop, and past the code
+abbrev pub stop-22 : Example
+stop-22 = example (card 10 (0 ∷ []) four) 10 (22, 1 ∷ 4 ∷ 0 ∷ []) (10, stepped 0, 0)
+
+-- 23: opcode 01
+abbrev pub stop-23 : Example
+stop-23 = example (card 10 (0x04000000 ∷ []) four) 10 (23, 0 ∷ 0 ∷ 0x04000000 ∷ []) (0, interrupt ILLEGAL, 0)
+
+-- 24: j 0
+abbrev pub stop-24 : Example
+stop-24 = example (card 10 (0x08000000 ∷ []) four) 10 (24, 0 ∷ 0 ∷ 0x08000000 ∷ []) (10, stepped 0, 0)
+
+-- 25: lw r1,r0(257)
+abbrev pub stop-25 : Example
+stop-25 = example (card 10 (0x8C010101 ∷ []) four) 10 (25, 0 ∷ 0 ∷ 0x8C010101 ∷ []) (0, interrupt MISALIGNED, 0)
+
+-- 26: lw r1,r0(272)
+abbrev pub stop-26 : Example
+stop-26 = example (card 10 (0x8C010110 ∷ []) four) 10 (26, 0 ∷ 0 ∷ 0x8C010110 ∷ []) (10, stepped 0, 0)
+
+-- 27: addi r1,r0,1; movi2s SPR[16],r1
+abbrev pub stop-27 : Example
+stop-27 = example (card 10 (0x24010001 ∷ 0x00200411 ∷ []) four) 10 (27, 1 ∷ 4 ∷ 0x00200411 ∷ []) (1, mode, 0)
+
+-- Accepted at every count up to 6 and at a later one, and stopped by each number
+abbrev pub shorter : List Example
+shorter = looping 0 ∷ looping 1 ∷ looping 2 ∷ looping 3 ∷ []
+
+abbrev pub longer : List Example
+longer = looping 4 ∷ looping 5 ∷ looping 6 ∷ looping 30 ∷ []
+
+abbrev pub stops : List Example
+stops = whole-case ∷ stop-21 ∷ stop-22 ∷ stop-23 ∷ []
+
+abbrev pub later-stops : List Example
+later-stops = stop-24 ∷ stop-25 ∷ stop-26 ∷ stop-27 ∷ []
+
+abbrev pub examples : List Example
+examples = shorter ++ longer ++ stops ++ later-stops
+
+-- An example holds: the loader accepts its card, the count is within its limit, and the checker, the call of its run and that of the VAMP answer so
 pub record Holds (e : Example) : Type 0 where
   pub bytes : Bytes (e .of-card)
   pub loads : refusal (e .of-card) LONGEST LONGEST DOUBLE-WORDS ≡ 0
   pub within : e .count ≤ recordOf (e .of-card) .limit
   pub says : checker (e .of-card) (e .count) ≡ e .answers
+  pub run-says : ran (e .of-card) (e .count) .0 ≡ e .answers
+  pub vamp-says : (let s = sailed (e .of-card) (e .count) in (s .0, s .1, s .2)) ≡ e .sails
 
 abbrev pub Each : List Example → Type 0
 Each [] = Unit {0}

@@ -2,12 +2,13 @@
 use Prim.Native.Nat.{ℕ, zero, suc, _+_, _≤_, _<_}
 use mathlib.Core.Path.{_≡_, refl, sym, ap, _∙_}
 use mathlib.Core.Bool.{Bool, true, false}
-use mathlib.Core.List.{List, [], _∷_, _++_, append-assoc}
+use mathlib.Core.List.{List, [], _∷_, _++_, append-assoc, append-nil}
+use native.Mathlib.Nat.{add-zero, add-suc}
 use native.Mathlib.Numerals.{add-one}
 use native.Mathlib.Omega.{arith}
 use borrow.Author.Tests.{eqb-true, eqb-false, ltb-true, ltb-false}
 use lib.Dec.{eqb, ltb}
-use lib.ListN.{length, getD, set, drop, length-append, length-set, List·getD-append, List·getD-eq-default, drop-of-length-le}
+use lib.ListN.{length, getD, set, drop, length-append, length-set, List·getD-append, List·getD-eq-default, drop-of-length-le, replicate, replicate-append-replicate}
 use lib.Seq.{getD-at, set-at, drop-cons}
 use Rattle.card.specs.Card.{tab}
 
@@ -31,6 +32,14 @@ tab-at f (suc n) i l = by (eqb i n) refl (tab-at f n i)
 
 pub tab-past : (f : ℕ → ℕ) (n i : ℕ) → n ≤ i → getD (tab f n) i 0 ≡ 0
 tab-past f n i l = List·getD-eq-default (tab f n) 0 (let k : length (tab f n) ≡ n = tab-length f n in omega arith)
+
+-- Where f is 0 from k on, so is the rest of the list
+pub tab-zeros : (f : ℕ → ℕ) (k m : ℕ) → ((i : ℕ) → k ≤ i → f i ≡ 0) → tab f (k + m) ≡ tab f k ++ replicate m 0
+unfolding tab
+tab-zeros f k zero z = rw (add-zero k) (sym (append-nil (tab f k)))
+tab-zeros f k (suc m) z =
+    rw (add-suc k m, z (k + m) (omega arith), tab-zeros f k m z)
+    (append-assoc (tab f k) (replicate m 0) (0 ∷ []) ∙ ap (λ (l : List ℕ). tab f k ++ l) (replicate-append-replicate m 1 0 ∙ ap (λ (n : ℕ). replicate n 0) (add-one m)))
 
 -- Where all of f is below a bound, so is what the list has, and the 0 past its end
 pub tab-below : (f : ℕ → ℕ) (n m : ℕ) → 0 < m → ((i : ℕ) → f i < m) → (i : ℕ) → getD (tab f n) i 0 < m

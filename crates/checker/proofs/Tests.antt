@@ -121,6 +121,27 @@ passes c d code s z =
       calm = p .6;
     }
 
+-- A violation's number is one of the table's
+abbrev Numbered : ℕ → Type 0
+Numbered n = 0 < n → (20 < n) × (n < 28)
+
+numbered : (a b c d e f g : Bool) → Numbered (first ((a, 21) ∷ (b, 22) ∷ (c, 23) ∷ (d, 24) ∷ (e, 25) ∷ (f, 26) ∷ (g, 27) ∷ []) 0)
+numbered true b c d e f g z = omega arith
+numbered false true c d e f g z = omega arith
+numbered false false true d e f g z = omega arith
+numbered false false false true e f g z = omega arith
+numbered false false false false true f g z = omega arith
+numbered false false false false false true g z = omega arith
+numbered false false false false false false true z = omega arith
+numbered false false false false false false false z = absurd (omega arith)
+
+pub violation-number : (c d : Region) (code : List ℕ) (s : State) → 0 < violation c d code s → (20 < violation c d code s) × (violation c d code s < 28)
+unfolding violation
+violation-number c d code s =
+    let w = fetched c code s in
+    let e = act w s .0 in
+    numbered (not (eqb (s .dpc % 4) 0)) (not (holds c (s .dpc))) (illegal w) (foreign w) (askew e) (outside d e) (modeSet e)
+
 -- A step that is stopped: which tests it passed, and the one that it broke
 stopped-by : (a b c d e f g : Bool) (n : ℕ) → first ((a, 21) ∷ (b, 22) ∷ (c, 23) ∷ (d, 24) ∷ (e, 25) ∷ (f, 26) ∷ (g, 27) ∷ []) 0 ≡ n
     → (n ≡ 21 → a ≡ true) × (n ≡ 23 → (a ≡ false) × (b ≡ false) × (c ≡ true)) × (n ≡ 25 → (a ≡ false) × (b ≡ false) × (c ≡ false) × (e ≡ true))
