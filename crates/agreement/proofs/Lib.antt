@@ -5,3 +5,4 @@ pub mod Simulation
 pub mod Theorem
 pub mod Results
 pub mod Inhabited
+pub mod Hand

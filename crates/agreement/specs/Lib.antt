@@ -1,3 +1,4 @@
 pub mod Demand
 pub mod Calls
 pub mod Examples
+pub mod Starred

@@ -1,7 +1,6 @@
 pub mod Integers
 pub mod Special
 pub mod Quiet
-pub mod Hand
 pub mod Regions
 pub mod Acts
 pub mod Bounds

@@ -1,4 +1,3 @@
 pub mod Rulings
 pub mod Effects
 pub mod Record
-pub mod Starred
