@@ -221,7 +221,28 @@ class Definitions:
         return tuple(int(p) if p.isdigit() else self.constants[p] for p in pair)
 
     def events(self):
-        return [self.answer(answer) for _, answer in self.longest(EVENTS, r"[A-Za-z]+( [A-Z0-9]+)?")[1]]
+        """Number, answer and test of each row. Neighbours that ask the same thing first are one event."""
+        found, last = [], None
+        for test, answer in self.longest(EVENTS, r"[A-Za-z]+( [A-Z0-9]+)?")[1]:
+            head = test.replace("(", " ").split()[0]
+            found.append((found[-1][0] + (head != last) if found else 1, self.answer(answer), test))
+            last = head
+        return found
+
+    def mask(self):
+        """The bit of SR that masks an overflow."""
+        bits = {int(bit) for _, _, right in self[EVENTS].clauses for bit in re.findall(r"\bSR / 2 \^ (\d+) % 2", right)}
+        if len(bits) != 1:
+            raise Lost(f"{EVENTS}: no single bit of SR")
+        return bits.pop()
+
+    def event_numbers(self, test):
+        """The numbers from 2 on in a test of an event, and in its own definition where that is in the same file."""
+        numbers = set()
+        for text in [test] + [right for name, _, right in self[EVENTS].clauses if name in re.findall(r"\w+", test)]:
+            for token in re.findall(r"[\w\-]+", re.sub(r"SR / 2 \^ (\d+) % 2", r"\1", text)):
+                numbers.add(int(token) if token.isdigit() else self.constants.get(token, 0))
+        return {n for n in numbers if n >= 2}
 
     def raised(self):
         """Violation: the answer that the VAMP machine is proved to give at that step. Each stands on a line."""
@@ -274,6 +295,10 @@ class Definitions:
         found = self.look(test.split()[0], CARD)
         compared = re.findall(r"\(getD card (\d+) 0\) (\d+)", found[1] if found else "")
         return "".join(chr(int(value)) for _, value in sorted(compared) if value != "0")
+
+    def wordless(self):
+        """The violations whose line has no word."""
+        return {int(n) for _, _, right in self[LINE].clauses for n in re.findall(r"eqb v (\d+)", right)}
 
     def lines(self):
         """The pieces of text of each verdict line, by the number of its values, and how each value is written."""
