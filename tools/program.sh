@@ -1,5 +1,5 @@
-# Finds, builds and runs a proved program of this repository. For scripts of sh: they set `top`, the repository's folder, and
-# take this file in by `.`; then
+# Finds, builds and runs a proved program of this repository. For scripts of sh: they end with `status`, which is 3 until there
+# is an answer, set `top`, the repository's folder, and take this file in by `.`; then
 #
 #   say TEXT..          says it on standard error
 #   fail TEXT..         says why on standard error and ends with status 3
@@ -8,10 +8,6 @@
 #   take_card CARD      takes a card's file for standard input; '-' is the one that is there
 #   ready PROGRAM       finds the kit, and proves and builds the program where it is missing or stale
 #   run                 runs the program that is ready
-
-# What ends a script before its answer, a fault of the shell itself too, is status 3.
-status=3
-trap 'exit "$status"' EXIT
 
 # Descriptors that are closed are filled, so that no other file takes their place: input with a folder, which nobody can read.
 input=open output=open
