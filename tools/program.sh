@@ -109,7 +109,7 @@ marked() { # PROGRAM..
     for name; do
         folders=$(crates_of "$name") && [ -n "$folders" ] || fail "crates.txt lists no crate $name"
         # shellcheck disable=SC2086
-        sums=$(cd "$top" && find -L crates.txt $folders -type f -exec sha256sum {} +) || fail "not all sources of $name can be read"
+        sums=$(cd "$top" && find -L crates.txt $folders -type f -exec sha256sum {} +) || fail "a source of $name cannot be read"
         sum=$(printf '%s\n' "$identity" "$sums" | LC_ALL=C sort | sha256sum) || fail "no sum of the sources of $name"
         echo "$name.${sum%% *}"
     done
