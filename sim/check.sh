@@ -242,6 +242,12 @@ $over_line" "$(./simulate bundle "$work/bundle")"
 if cmp -s <(head -c "$(wc -c < "$work/twenty")" "$work/forty") "$work/twenty"; then good=1; else good=0; fi
 report "card i of a seed does not depend on N" $good
 same "one line for each card of a bundle" 40 "$(./simulate bundle "$work/forty" | wc -l | tr -d ' ')"
+for seed in 7 8; do
+    ./cards $seed 5000 > "$work/many"
+    ./simulate bundle "$work/many" > "$work/plain"
+    if ./simulate fast "$work/many" | cmp -s - "$work/plain"; then good=1; else good=0; fi
+    report "the fast checker says and leaves the same on the 5,000 cards of seed $seed" $good
+done
 if ./cards --stats 7 4000 > "$work/stats"; then good=1; else good=0; fi
 report "the two machines agree on every accepted step of 4,000 cards" $good
 same "every verdict and VAMP answer occurs" "" \

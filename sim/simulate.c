@@ -4,8 +4,10 @@
  *   simulate verdict [FILE...]   one verdict line per card
  *   simulate dump [FILE]         both final states in full
  *   simulate bundle FILE         one line per card of a bundle, with digests
+ *   simulate fast FILE           the same lines, with the checker of fast.c
  *   simulate selftest            the hand-checked cases
  */
+#include "fast.h"
 #include "selftest.h"
 #include "sim.h"
 
@@ -88,14 +90,17 @@ struct both {
     struct vamp_result stepped;
 };
 
+/* A checked run, plain or fast. */
+typedef struct check_result checked_run(struct checker *machine, uint32_t limit);
+
 /* Answers the refusal, or 0 with both runs done. */
-static int run_both(const uint8_t *bytes, size_t length, struct both *both)
+static int run_both(const uint8_t *bytes, size_t length, checked_run *run, struct both *both)
 {
     int refusal = card_load(bytes, length, &both->card);
     if (refusal != REFUSED_NOT)
         return refusal;
     checker_start(&both->checker, &both->card);
-    both->checked = checker_run(&both->checker, both->card.limit);
+    both->checked = run(&both->checker, both->card.limit);
     vamp_start(&both->loaded, &both->card);
     both->vamp = both->loaded;
     both->stepped = vamp_run(&both->vamp, both->card.limit);
@@ -156,7 +161,7 @@ static int mode_dump(const char *name)
 {
     static struct both both;
     struct bytes bytes = read_file(name);
-    int refusal = run_both(bytes.at, bytes.length, &both);
+    int refusal = run_both(bytes.at, bytes.length, checker_run, &both);
     if (refusal != REFUSED_NOT)
         printf("refused %d\n", refusal);
     else
@@ -219,11 +224,11 @@ static uint64_t digest_vamp(const struct both *both)
     return digest_bytes(digest, both->vamp.memory, MEMORY_BYTES);
 }
 
-static void print_digests(const uint8_t *card, size_t length)
+static void print_digests(const uint8_t *card, size_t length, checked_run *run)
 {
     static struct both both;
     char text[VERDICT_TEXT];
-    int refusal = run_both(card, length, &both);
+    int refusal = run_both(card, length, run, &both);
     if (refusal != REFUSED_NOT) {
         verdict_refused(refusal, text);
         puts(text);
@@ -235,7 +240,7 @@ static void print_digests(const uint8_t *card, size_t length)
 }
 
 /* A bundle is a sequence of (length in four bytes, that many card bytes). */
-static int mode_bundle(const char *name)
+static int mode_bundle(const char *name, checked_run *run)
 {
     struct bytes bundle = read_file(name);
     size_t at = 0;
@@ -248,7 +253,7 @@ static int mode_bundle(const char *name)
             break;
         }
         size_t length = get_word(bundle.at + at);
-        print_digests(bundle.at + at + WORD_BYTES, length);
+        print_digests(bundle.at + at + WORD_BYTES, length, run);
         at += WORD_BYTES + length;
     }
     free(bundle.at);
@@ -259,7 +264,7 @@ static int mode_bundle(const char *name)
 
 static int usage(void)
 {
-    fprintf(stderr, "usage: simulate verdict [FILE...] | dump [FILE] | bundle FILE | selftest\n");
+    fprintf(stderr, "usage: simulate verdict [FILE...] | dump [FILE] | bundle FILE | fast FILE | selftest\n");
     return EXIT_TROUBLE;
 }
 
@@ -273,7 +278,9 @@ int main(int argc, char **argv)
     if (strcmp(mode, "dump") == 0 && argc <= 3)
         return mode_dump(argc == 3 ? argv[2] : NULL);
     if (strcmp(mode, "bundle") == 0 && argc == 3)
-        return mode_bundle(argv[2]);
+        return mode_bundle(argv[2], checker_run);
+    if (strcmp(mode, "fast") == 0 && argc == 3)
+        return mode_bundle(argv[2], fast_run);
     if (strcmp(mode, "selftest") == 0 && argc == 2)
         return selftest() == 0 ? 0 : 1;
     return usage();

@@ -1,12 +1,13 @@
 -- The tests of a step by the kinds of effect.
-use Prim.Native.Nat.{ℕ, _%_, _<_}
+use Prim.Native.Nat.{ℕ, _+_, _*_, _/_, _%_, _^_, _≤_, _<_}
 use native.Mathlib.Omega.{arith}
 use mathlib.Core.Path.{_≡_, refl, sym, ap, _∙_}
 use mathlib.Core.Bool.{Bool, true, false, not}
 use mathlib.Core.List.{List, [], _∷_}
 use mathlib.Core.Option.{Option, none, some}
-use borrow.Author.Tests.{not-true, not-false, eq-eqb, ne-eqb, eqb-true, eqb-false}
-use lib.Dec.{eqb}
+use borrow.Author.Tests.{not-true, not-false, eq-eqb, ne-eqb, eqb-true, eqb-false, leb-true, le-ltb}
+use lib.Dec.{eqb, leb}
+use lib.ListN.{getD}
 use Rattle.words.specs.declared.LoadKind.{LoadKind}
 use Rattle.words.specs.declared.StoreKind.{StoreKind}
 use Rattle.machine.specs.declared.Effect.{Effect}
@@ -15,9 +16,11 @@ use Rattle.machine.specs.declared.Region.{Region}
 use Rattle.words.specs.Words.{reading}
 use Rattle.words.specs.declared.Instruction.{Instruction}
 use Rattle.machine.specs.Effects.{State, illegal, access, act, meaning, applied, moved, askew, modeSet}
-use Rattle.machine.specs.Record.{holds, first}
+use Rattle.machine.specs.Record.{holds, wordAt, first}
 use Rattle.machine.proofs.Acts.{act-reads, legal-not}
+use Rattle.machine.proofs.Regions.{holds-in}
 use Rattle.checker.specs.Checks.{outside, admits, foreign, fetched, violation, found, left, next}
+use Rattle.checker.specs.Inner.{Offset}
 
 -- A load or store that is not outside the region has an address in it
 pub load-inside : (d : Region) (e : Effect) (k : LoadKind) (n a : ℕ) → e ≡ does.Load k n a → outside d e ≡ false → holds d a ≡ true
@@ -27,6 +30,19 @@ load-inside d e k n a q o = not-false (holds d a) (rw q at o)
 pub store-inside : (d : Region) (e : Effect) (k : StoreKind) (a x : ℕ) → e ≡ does.Store k a x → outside d e ≡ false → holds d a ≡ true
 unfolding outside access
 store-inside d e k a x q o = not-false (holds d a) (rw q at o)
+
+-- How far into a region an address lies, where the difference is taken modulo 2^64
+pub offset-wraps : (r : Region) (a n : ℕ) → a < 2 ^ 32 → r .start < 2 ^ 32 → r .words < 2 ^ 32 → n < 2 ^ 64 → (n + r .start) % 2 ^ 64 ≡ a → Offset r a n
+offset-wraps r a n la ls lw ln e = (λ p. (holds-in r a (omega arith) (omega arith), omega arith), λ p. by p (leb (r .start) a) refl)
+  where
+    by : 4 * r .words ≤ n → (t : Bool) → leb (r .start) a ≡ t → holds r a ≡ false
+    by p true q = let l : r .start ≤ a = leb-true (r .start) a q in rw (q, le-ltb a (r .start + 4 * r .words) (omega arith))
+    by p false q = rw q
+
+-- The word that far into a region's list
+pub offset-word : (r : Region) (ws : List ℕ) (a n : ℕ) → Offset r a n → n < 4 * r .words → getD ws (n / 4) 0 ≡ wordAt r ws a
+unfolding wordAt
+offset-word r ws a n o h = ap (λ (m : ℕ). getD ws (m / 4) 0) (o .0 h .1)
 
 -- The reading of a word decides test 24
 pub foreign-admits : (w : ℕ) (i : Instruction) → reading w ≡ (0, some i) → foreign w ≡ not (admits i)

@@ -1,7 +1,7 @@
 -- What the private functions of the checked step promise each other, over the definitions of Checks.
-use Prim.Native.Nat.{ℕ, _≤_, _<_}
+use Prim.Native.Nat.{ℕ, _-_, _*_, _≤_, _<_}
 use mathlib.Core.Path.{_≡_}
-use mathlib.Core.Bool.{Bool, not, _&&_}
+use mathlib.Core.Bool.{Bool, true, false, not, _&&_}
 use mathlib.Core.List.{List, [], _∷_}
 use lib.Dec.{eqb}
 use lib.ListN.{length}
@@ -17,6 +17,10 @@ use Rattle.checker.specs.Runs.{told, verdictAnswer, running}
 -- A region lies in its list
 abbrev pub Room : Region → List ℕ → Type 0
 Room r ws = r .words ≤ length ws
+
+-- How far into a region an address lies, in bytes; as far as the region's end or farther where it lies outside
+abbrev pub Offset : Region → ℕ → ℕ → Type 0
+Offset r a n = (n < 4 * r .words → (holds r a ≡ true) × (n ≡ a - r .start)) × (4 * r .words ≤ n → holds r a ≡ false)
 
 -- A step that was taken, or stopped with nothing changed
 abbrev pub Stepped : Region → Region → List ℕ → ℕ → ℕ → List ℕ → List ℕ → List ℕ → Moved → List ℕ → List ℕ → List ℕ → Type 0

@@ -7,7 +7,7 @@ ghost use lib.ListN.{length};
 ghost use Rattle.machine.specs.Effects.{askew, modeSet, State};
 ghost use Rattle.machine.specs.Record.{first};
 ghost use Rattle.checker.specs.Checks.{outside, found, left};
-ghost use Rattle.checker.specs.Inner.{Room, Stepped, modeNumber, accessNumber};
+ghost use Rattle.checker.specs.Inner.{Room, Stepped, Offset, modeNumber, accessNumber};
 use crate::admitted::admits;
 use machine::Effect;
 use machine::Machine;
@@ -15,6 +15,7 @@ use machine::Region;
 use machine::refusals::contains;
 use machine::sizes::load_askew;
 use machine::sizes::store_askew;
+use std::num::wrapping_sub_u64;
 use words::Reading;
 
 // A step taken, with the new counters, or stopped, with the number of the test and the word.
@@ -40,11 +41,11 @@ pub(crate) fn step(
     if dpc % 4 != 0 {
         return Moved::Stopped(21, 0);
     }
-    if !contains(fetches, dpc) {
+    let offset = offset_of(fetches, dpc);
+    if 4 * (fetches.words as u64) <= offset {
         return Moved::Stopped(22, 0);
     }
-    let start = fetches.start;
-    let at = ((dpc - start) / 4) as usize;
+    let at = (offset / 4) as usize;
     let word = code[at];
     let reading = words::read(word);
     match reading {
@@ -64,6 +65,13 @@ pub(crate) fn step(
             Moved::On(onward, act.next)
         }
     }
+}
+
+// How far into a region an address lies, in bytes. One before it wraps to beyond all regions: one test tells both ways out.
+fn offset_of(region: Region, address: u32) -> u64
+    ensures { λ r. ⌜ Offset region address r ⌝ }
+{
+    wrapping_sub_u64(address as u64, region.start as u64)
 }
 
 // The number of the first of the tests 25 to 27 that an effect breaks, or 0.

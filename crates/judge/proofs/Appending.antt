@@ -98,7 +98,7 @@ cut n b k = div-div-eq-div-mul n b (b ^ k) ∙ ap (λ (x : ℕ). n / x) (sym (po
 pub cut-none : (n b : ℕ) → n / b ^ 0 ≡ n
 cut-none n b = ap (λ (x : ℕ). n / x) (pow-zero b) ∙ div-one n
 
--- ---- Lines written from a text, i bytes of it or all but k digits of it
+-- ---- Lines written from a text, i bytes of it, and lines with digits put after them
 
 pub record Putting (text : List ℕ) (l₀ l : Line) (i : ℕ) : Type 0 where
   pub rest : appended l (drop i text) ≡ appended l₀ text
@@ -114,21 +114,16 @@ pub putting-all : {text : List ℕ} {l₀ l : Line} {i : ℕ} → Putting text l
 putting-all {text} {l₀} {l} {i} p h =
     (sym (append-none l) ∙ ap (appended l) (sym (drop-of-length-le text {i = i} h)) ∙ p .rest, omega arith)
 
-pub record Spelling (b n c : ℕ) (l₀ l : Line) (k : ℕ) : Type 0 where
-  pub rest : appended l (digits b k n) ≡ appended l₀ (digits b c n)
-  pub count : l .len + k ≡ l₀ .len + c
-
-pub spelling-more : {b n c : ℕ} {l₀ l l' : Line} {k : ℕ} → Spelling b n c l₀ l k → 0 < k → l' ≡ pushed l (glyph (n / b ^ (k - 1) % b)) → Spelling b n c l₀ l' (k - 1)
-spelling-more {b} {n} {c} {l₀} {l} {l'} {k} p h e =
-    let s : l' .len ≡ l .len + 1 = ap (λ (x : Line). x .len) e ∙ push-length l (glyph (n / b ^ (k - 1) % b)) in
-    let t : suc (k - 1) ≡ k = omega arith in
-    record {
-      rest = ap (λ (x : Line). appended x (digits b (k - 1) n)) e ∙ append-digit l b (k - 1) n ∙ ap (λ (x : ℕ). appended l (digits b x n)) t ∙ p .rest;
-      count = omega arith;
-    }
-
-pub spelling-all : {b n c : ℕ} {l₀ l : Line} {k : ℕ} → Spelling b n c l₀ l k → k ≤ 0 → (l ≡ appended l₀ (digits b c n)) × (l .len ≡ l₀ .len + c)
+-- No digit, and a digit before k - 1 more
+pub spelled-none : (l : Line) (b n k : ℕ) → k ≡ 0 → (l ≡ appended l (digits b k n)) × (l .len ≡ l .len + k)
 unfolding digits
-spelling-all {b} {n} {c} {l₀} {l} {k} p h =
-    let z : k ≡ 0 = omega arith in
-    (sym (append-none l) ∙ ap (λ (x : ℕ). appended l (digits b x n)) (sym z) ∙ p .rest, omega arith)
+spelled-none l b n k z = (sym (append-none l) ∙ ap (λ (x : ℕ). appended l (digits b x n)) (sym z), omega arith)
+
+pub spelled-more : (l : Line) (b n k : ℕ) {l' r : Line} → 0 < k → l' ≡ pushed l (glyph (n / b ^ (k - 1) % b))
+    → (r ≡ appended l' (digits b (k - 1) n)) × (r .len ≡ l' .len + (k - 1)) → (r ≡ appended l (digits b k n)) × (r .len ≡ l .len + k)
+spelled-more l b n k {l'} h e p =
+    let s : l' .len ≡ l .len + 1 = ap (λ (x : Line). x .len) e ∙ push-length l (glyph (n / b ^ (k - 1) % b)) in
+    let t : suc (k - 1) ≡ k = omega arith in (
+      p .0 ∙ ap (λ (x : Line). appended x (digits b (k - 1) n)) e ∙ append-digit l b (k - 1) n ∙ ap (λ (x : ℕ). appended l (digits b x n)) t,
+      omega arith,
+    )

@@ -86,13 +86,11 @@ fn put_digits(line: Line, n: u32, base: u32, count: u32) -> Line
     ensures { λ r. ⌜ r ≡ appended line (digits base count n) ⌝ }
     ensures { λ r. ⌜ r .len ≡ line .len + count ⌝ }
 {
-    let mut out = line;
-    let mut k = count;
-    while k > 0 {
-        k -= 1;
-        out = push(out, digit(n, base, k));
+    if count == 0 {
+        return line;
     }
-    out
+    let longer = push(line, digit(n, base, count - 1));
+    put_digits(longer, n, base, count - 1)
 }
 
 fn put_decimal(line: Line, n: u32) -> Line

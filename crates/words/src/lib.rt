@@ -141,7 +141,8 @@ pub fn read(word: u32) -> Reading
     let opcode = fields::opcode_of(word);
     match opcode {
         0x00 => reader::register(word),
-        0x02..=0x05 => Reading::Legal(reader::transfer(word, opcode)),
+        0x02..=0x03 => Reading::Legal(reader::jump(word, opcode)),
+        0x04..=0x05 => Reading::Legal(reader::branch(word, opcode)),
         0x08..=0x0F => Reading::Legal(reader::arithmetic(word, opcode)),
         0x16..=0x1F => Reading::Legal(reader::test(word, opcode)),
         0x20..=0x2B => reader::memory(word, opcode),

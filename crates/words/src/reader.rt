@@ -57,15 +57,24 @@ pub(crate) fn register(word: u32) -> Reading
     }
 }
 
-// j, jal, beqz, bnez.
-pub(crate) fn transfer(word: u32, number: u32) -> Instruction
-    requires { ⌜ (opcode word ≡ number) × (0x02 ≤ number) × (number ≤ 0x05) ⌝ }
+// j, jal.
+pub(crate) fn jump(word: u32, number: u32) -> Instruction
+    requires { ⌜ (opcode word ≡ number) × (0x02 ≤ number) × (number ≤ 0x03) ⌝ }
+    ensures { λ r. ⌜ reading word ≡ (0, some r) ⌝ }
+{
+    match number {
+        0x02 => Instruction::J(immediate26_of(word)),
+        _ => Instruction::Jal(immediate26_of(word)),
+    }
+}
+
+// beqz, bnez.
+pub(crate) fn branch(word: u32, number: u32) -> Instruction
+    requires { ⌜ (opcode word ≡ number) × (0x04 ≤ number) × (number ≤ 0x05) ⌝ }
     ensures { λ r. ⌜ reading word ≡ (0, some r) ⌝ }
 {
     let f = fields_of(word);
     match number {
-        0x02 => Instruction::J(immediate26_of(word)),
-        0x03 => Instruction::Jal(immediate26_of(word)),
         0x04 => Instruction::Beqz(f.rs1, immediate16_of(word)),
         _ => Instruction::Bnez(f.rs1, immediate16_of(word)),
     }
