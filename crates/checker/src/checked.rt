@@ -86,10 +86,11 @@ fn judge(effect: Effect, region: Region) -> u32
 fn judge_access(skew: bool, ea: u32, region: Region) -> u32
     ensures { λ r. ⌜ r ≡ accessNumber skew region ea ⌝ }
 {
+    let held = contains(region, ea);
     if skew {
         return 25;
     }
-    if !contains(region, ea) {
+    if !held {
         return 26;
     }
     0
