@@ -86,11 +86,10 @@ fn judge(effect: Effect, region: Region) -> u32
 fn judge_access(skew: bool, ea: u32, region: Region) -> u32
     ensures { λ r. ⌜ r ≡ accessNumber skew region ea ⌝ }
 {
-    let held = contains(region, ea);
     if skew {
         return 25;
     }
-    if !held {
+    if !contains(region, ea) {
         return 26;
     }
     0

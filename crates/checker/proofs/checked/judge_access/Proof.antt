@@ -5,4 +5,4 @@ use Rattle.checker.proofs.checked.judge_access.Statement.{statement}
 use Rattle.checker.proofs.checked.judge_access.Tie as tie
 
 pub judge-access-spec : {M : Type 1} → statement M
-judge-access-spec = tie.close (tie.spec (λ c κs. search needs) (λ c. search needs) (λ c. rw (c .before .if1 .left, sym (c .before .before .contains .ensures) ∙ not-true _ (c .if2 .taken))) (λ c. rw (c .before .if1 .left, sym (c .before .before .contains .ensures) ∙ not-false _ (c .if2 .left))))
+judge-access-spec = tie.close (tie.spec (λ c. search needs) (λ c κs. search needs) (λ c. rw (c .before .before .if1 .left, sym (c .before .contains .ensures) ∙ not-true _ (c .if2 .taken))) (λ c. rw (c .before .before .if1 .left, sym (c .before .contains .ensures) ∙ not-false _ (c .if2 .left))))
