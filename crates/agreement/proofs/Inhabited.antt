@@ -28,9 +28,9 @@ use Rattle.vamp.specs.Steps as steps
 use Rattle.vamp.specs.Steps.{onward, vstep, memoryAfter}
 use Rattle.card.specs.Card.{codeBuffer, dataBuffer, memoryBuffer, double, padded}
 use Rattle.agreement.specs.Demand.{checker}
-use Rattle.agreement.specs.Calls.{limited, ran, sailed}
+use Rattle.agreement.specs.Calls.{limited}
 use Rattle.agreement.proofs.Results.{run-checks}
-use Rattle.agreement.specs.Examples.{Example, examples, whole-case, looping, stop-21, stop-22, stop-23, stop-24, stop-25, stop-26, stop-27, shorter, longer, stops, later-stops, Holds, Each}
+use Rattle.agreement.specs.Examples.{Example, examples, whole-case, looping, stop-21, stop-22, stop-23, stop-24, stop-25, stop-26, stop-27, short-runs, longer-runs, stops-to-23, stops-from-24, Holds, Each}
 
 -- Every byte of a list that was computed to be one
 abbrev small : List ℕ → Bool
@@ -106,21 +106,21 @@ module _ (e : Example) where
       }
 
 -- Computed a few at a time: one declaration may take so many steps and no more
-shorter-hold : Each shorter
+short-runs-hold : Each short-runs
 unfolding double image part patch memory.loaded stored steps.running onward vstep event accessPast trapped overflowed overflowMasked steps.found memoryAfter refusal recordOf wrongLength tooShort wrongMark wrongVersion reservedSet wrongSize wrongCount unalignedStart pastMemory overlap idleSet notZero overLimit tab number16 number32 running after violation next found left outside foreign admits codeBuffer dataBuffer padded wordAt act moved meaning applied register put putSpecial access askew modeSet illegal reading opcode function field immediate16 immediate26 plus sext
-shorter-hold = (holds-so (looping 0) tt refl tt refl tt tt refl, (holds-so (looping 1) tt refl tt refl tt tt refl, (holds-so (looping 2) tt refl tt refl tt tt refl, (holds-so (looping 3) tt refl tt refl tt tt refl, tt))))
+short-runs-hold = (holds-so (looping 0) tt refl tt refl tt tt refl, (holds-so (looping 1) tt refl tt refl tt tt refl, (holds-so (looping 2) tt refl tt refl tt tt refl, (holds-so (looping 3) tt refl tt refl tt tt refl, tt))))
 
-longer-hold : Each longer
+longer-runs-hold : Each longer-runs
 unfolding double image part patch memory.loaded stored steps.running onward vstep event accessPast trapped overflowed overflowMasked steps.found memoryAfter refusal recordOf wrongLength tooShort wrongMark wrongVersion reservedSet wrongSize wrongCount unalignedStart pastMemory overlap idleSet notZero overLimit tab number16 number32 running after violation next found left outside foreign admits codeBuffer dataBuffer padded wordAt act moved meaning applied register put putSpecial access askew modeSet illegal reading opcode function field immediate16 immediate26 plus sext
-longer-hold = (holds-so (looping 4) tt refl tt refl tt tt refl, (holds-so (looping 5) tt refl tt refl tt tt refl, (holds-so (looping 6) tt refl tt refl tt tt refl, (holds-so (looping 30) tt refl tt refl tt tt refl, tt))))
+longer-runs-hold = (holds-so (looping 4) tt refl tt refl tt tt refl, (holds-so (looping 5) tt refl tt refl tt tt refl, (holds-so (looping 6) tt refl tt refl tt tt refl, (holds-so (looping 30) tt refl tt refl tt tt refl, tt))))
 
-stops-hold : Each stops
+stops-to-23-hold : Each stops-to-23
 unfolding double image part patch memory.loaded stored steps.running onward vstep event accessPast trapped overflowed overflowMasked steps.found memoryAfter refusal recordOf wrongLength tooShort wrongMark wrongVersion reservedSet wrongSize wrongCount unalignedStart pastMemory overlap idleSet notZero overLimit tab number16 number32 running after violation next found left outside foreign admits codeBuffer dataBuffer padded wordAt act moved meaning applied register put putSpecial access askew modeSet illegal reading opcode function field immediate16 immediate26 plus sext
-stops-hold = (holds-so whole-case tt refl tt refl tt tt refl, (holds-so stop-21 tt refl tt refl tt tt refl, (holds-so stop-22 tt refl tt refl tt tt refl, (holds-so stop-23 tt refl tt refl tt tt refl, tt))))
+stops-to-23-hold = (holds-so whole-case tt refl tt refl tt tt refl, (holds-so stop-21 tt refl tt refl tt tt refl, (holds-so stop-22 tt refl tt refl tt tt refl, (holds-so stop-23 tt refl tt refl tt tt refl, tt))))
 
-later-stops-hold : Each later-stops
+stops-from-24-hold : Each stops-from-24
 unfolding double image part patch memory.loaded stored steps.running onward vstep event accessPast trapped overflowed overflowMasked steps.found memoryAfter refusal recordOf wrongLength tooShort wrongMark wrongVersion reservedSet wrongSize wrongCount unalignedStart pastMemory overlap idleSet notZero overLimit tab number16 number32 running after violation next found left outside foreign admits codeBuffer dataBuffer padded wordAt act moved meaning applied register put putSpecial access askew modeSet illegal reading opcode function field immediate16 immediate26 plus sext
-later-stops-hold = (holds-so stop-24 tt refl tt refl tt tt refl, (holds-so stop-25 tt refl tt refl tt tt refl, (holds-so stop-26 tt refl tt refl tt tt refl, (holds-so stop-27 tt refl tt refl tt tt refl, tt))))
+stops-from-24-hold = (holds-so stop-24 tt refl tt refl tt tt refl, (holds-so stop-25 tt refl tt refl tt tt refl, (holds-so stop-26 tt refl tt refl tt tt refl, (holds-so stop-27 tt refl tt refl tt tt refl, tt))))
 
 -- One after the other
 both : (es fs : List Example) → Each es → Each fs → Each (es ++ fs)
@@ -128,4 +128,4 @@ both [] fs x y = y
 both (e ∷ es) fs x y = (x .0, both es fs (x .1) y)
 
 pub examples-hold : Each examples
-examples-hold = both shorter (longer ++ stops ++ later-stops) shorter-hold (both longer (stops ++ later-stops) longer-hold (both stops later-stops stops-hold later-stops-hold))
+examples-hold = both short-runs (longer-runs ++ stops-to-23 ++ stops-from-24) short-runs-hold (both longer-runs (stops-to-23 ++ stops-from-24) longer-runs-hold (both stops-to-23 stops-from-24 stops-to-23-hold stops-from-24-hold))

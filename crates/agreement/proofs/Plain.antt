@@ -5,7 +5,6 @@ use mathlib.Core.Bool.{Bool, true, false}
 use mathlib.Core.List.{List}
 use Rattle.words.specs.declared.Instruction.{Instruction}
 use Rattle.words.specs.declared.Instruction.the-variants.{ShiftImmediate, ShiftRegister, Movs2i, Movi2s, ArithmeticRegister, Lhg, Clr, CompareRegister, Set, J, Jal, Trap, Rfe, Beqz, Bnez, ArithmeticImmediate, Lhgi, Jr, Jalr, Clri, CompareImmediate, Seti, Load, Store}
-use Rattle.words.specs.declared.Shift.the-variants.{Sll, Sla, Srl, Sra}
 use Rattle.words.specs.declared.Arithmetic.{Arithmetic}
 use Rattle.words.specs.declared.Arithmetic.the-variants.{Addo, Add, Subo, Sub, And, Or, Xor}
 use Rattle.words.specs.declared.LoadKind.{LoadKind}

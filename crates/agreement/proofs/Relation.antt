@@ -1,23 +1,22 @@
 -- The relation between the two machines, and the memory's share of it: a word load and a word store on the data list are those on double words.
 use Prim.Native.Nat.{ℕ, _+_, _-_, _*_, _/_, _%_, _^_, _≤_, _<_}
 use mathlib.Core.Path.{_≡_, refl, sym, ap, _∙_}
-use mathlib.Core.Bool.{Bool, true, false, not}
+use mathlib.Core.Bool.{Bool, true, false}
 use mathlib.Core.List.{List}
 use native.Mathlib.Nat.{mod-eq-of-lt}
 use native.Mathlib.Omega.{arith}
-use borrow.Author.Tests.{eqb-true, eqb-false, eq-eqb, ne-eqb}
+use borrow.Author.Tests.{eqb-true, eqb-false}
 use lib.Dec.{eqb}
-use lib.ListN.{getD, set, length}
+use lib.ListN.{set, length}
 use lib.Seq.{getD-set-same, getD-set-other}
 use Rattle.words.specs.Fields.{pick}
-use Rattle.machine.specs.declared.Machine.{Machine}
 use Rattle.machine.specs.declared.Region.{Region}
 use Rattle.machine.specs.Effects.{State}
 use Rattle.machine.specs.Record.{DOUBLE-WORDS, MEMORY, holds, wordAt, image}
 use Rattle.machine.proofs.Bounds.{Words}
 use Rattle.machine.proofs.Regions.{Disjoint, holds-yes, image-code, image-data, image-else}
 use Rattle.vamp.specs.Memory.{at, put}
-use Rattle.vamp.proofs.Memory.{at-word, put-length}
+use Rattle.vamp.proofs.Memory.{at-word}
 
 -- Where the regions of a record that was loaded lie
 pub record Laid (c d : Region) : Type 0 where

@@ -1,5 +1,5 @@
 -- Demand 3 for the results of the public calls.
-use Prim.Native.Nat.{ℕ, zero, suc, _+_, _≤_, _<_}
+use Prim.Native.Nat.{ℕ, zero, _+_, _≤_, _<_}
 use mathlib.Core.Path.{_≡_, refl, sym, ap, subst, _∙_}
 use mathlib.Core.Bool.{Bool, true, false}
 use mathlib.Core.List.{List, [], _∷_}
@@ -7,7 +7,7 @@ use mathlib.Core.Logic.{_⊎_, inl, inr}
 use native.Mathlib.Nat.{zero-add}
 use native.Mathlib.Omega.{arith}
 use borrow.Author.Tests.{eqb-true, eqb-false, ltb-false, le-ltb}
-use lib.Dec.{eqb, ltb}
+use lib.Dec.{eqb}
 use lib.ListN.{length}
 use Rattle.words.proofs.Signed.{false-true}
 use Rattle.machine.specs.declared.Machine.{Machine}
@@ -15,7 +15,7 @@ use Rattle.machine.specs.Effects.{State}
 use Rattle.machine.specs.Record.{DOUBLE-WORDS, LONGEST, MOST-STEPS, stateOf, withState, wrongCount, unalignedStart, pastMemory, overlap, notZero, overLimit}
 use Rattle.checker.specs.Checks.{violation, fetched}
 use Rattle.checker.specs.Runs as checked
-use Rattle.checker.specs.Runs.{runs, taking, runRefusal, told}
+use Rattle.checker.specs.Runs.{taking, runRefusal, told}
 use Rattle.checker.proofs.Tests.{violation-number}
 use Rattle.checker.proofs.Theorems.{First, ends, accepted-only, violation-only, accepts, stops-at}
 use Rattle.vamp.specs.Events.{stepped, interrupt, MISALIGNED, ILLEGAL}
@@ -26,7 +26,7 @@ use Rattle.card.specs.Card.{Bytes, refusal, recordOf, codeBuffer, dataBuffer, m
 use Rattle.card.proofs.Accepted.{Passes, accepted, right-length}
 use Rattle.card.proofs.Memory.{code-length, data-length, memory-length}
 use Rattle.card.proofs.Results.{refused-by, loading-accepted, loading-refused}
-use Rattle.agreement.specs.Demand.{drawing, ship, checker, Agree, Together}
+use Rattle.agreement.specs.Demand.{drawing, ship, checker, Agree}
 use Rattle.agreement.specs.Calls.{limited, ran, sailed, drawn, shipped, Follows, Raises, Stops, Calls, Demand-3-of-the-calls}
 use Rattle.agreement.proofs.Theorem.{passed, together, event-21, event-23, event-25, Ok}
 

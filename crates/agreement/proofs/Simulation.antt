@@ -1,18 +1,17 @@
 -- The induction: what the steps of both machines leave stays the same as long as the checker finds nothing, and where it stops on 21, 23 or 25 the VAMP raises that event.
 use Prim.Native.Nat.{ℕ, zero, suc, _%_, _≤_, _<_}
 use mathlib.Core.Path.{_≡_, refl, sym, ap, subst, _∙_}
-use mathlib.Core.Bool.{Bool, true, false, not}
+use mathlib.Core.Bool.{true}
 use mathlib.Core.List.{List}
 use mathlib.Core.Logic.{_⊎_, inl, inr}
 use mathlib.Core.Option.{none, some}
 use native.Mathlib.Omega.{arith}
 use borrow.Author.Tests.{eq-eqb, ne-eqb, lt-leb, not-false}
-use lib.Dec.{eqb}
 use Rattle.words.specs.Words.{reading}
 use Rattle.words.specs.declared.Instruction.{Instruction}
 use Rattle.words.proofs.Signed.{false-true}
 use Rattle.machine.specs.declared.Region.{Region}
-use Rattle.machine.specs.Effects.{State, act, illegal, askew}
+use Rattle.machine.specs.Effects.{State}
 use Rattle.machine.specs.Record.{MEMORY, holds}
 use Rattle.machine.proofs.Acts.{word-reads, illegal-yes}
 use Rattle.machine.proofs.Regions.{holds-yes}
@@ -24,7 +23,7 @@ use Rattle.vamp.specs.Events.{stepped, interrupt, MISALIGNED, ILLEGAL, event}
 use Rattle.vamp.specs.Events as ship
 use Rattle.vamp.specs.Steps.{vstep}
 use Rattle.vamp.specs.Steps as vamp
-use Rattle.agreement.proofs.Relation.{Laid, Image, Same, fetch-same}
+use Rattle.agreement.proofs.Relation.{Laid, Same, fetch-same}
 use Rattle.agreement.proofs.Plain.{admitted-plain, admitted-words}
 use Rattle.agreement.proofs.Step.{taken, stays-same}
 

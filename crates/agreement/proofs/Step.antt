@@ -1,13 +1,13 @@
 -- One step of both machines: where the checker finds nothing against it, the VAMP takes it with an empty cause word and the two stay the same.
 use Prim.Native.Nat.{ℕ, _%_, _/_, _-_, _^_, _≤_, _<_}
 use mathlib.Core.Path.{_≡_, refl, sym, ap, subst, _∙_}
-use mathlib.Core.Bool.{Bool, true, false, not, _&&_}
-use mathlib.Core.List.{List, [], _∷_}
-use mathlib.Core.Option.{none, some}
+use mathlib.Core.Bool.{Bool, true, false}
+use mathlib.Core.List.{List}
+use mathlib.Core.Option.{some}
 use native.Mathlib.Omega.{arith}
-use borrow.Author.Tests.{eq-eqb, ne-eqb, eqb-true, lt-leb, not-false, not-true}
-use lib.Dec.{eqb, leb}
-use lib.ListN.{getD, length, set}
+use borrow.Author.Tests.{eq-eqb, eqb-true, lt-leb, not-false}
+use lib.Dec.{eqb}
+use lib.ListN.{getD, length}
 use Rattle.words.specs.Words.{reading}
 use Rattle.words.specs.declared.Instruction.{Instruction}
 use Rattle.words.specs.declared.LoadKind.{LoadKind}
@@ -17,24 +17,24 @@ use Rattle.words.specs.declared.StoreKind.the-variants.{Sb, Sh, Sw}
 use Rattle.machine.specs.declared.Effect.{Effect}
 use Rattle.machine.specs.declared.Effect.the-variants as does
 use Rattle.machine.specs.declared.Region.{Region}
-use Rattle.machine.specs.Effects.{State, act, moved, meaning, illegal, access, askew, modeSet, loadSize, storeSize}
-use Rattle.machine.specs.Record.{DOUBLE-WORDS, MEMORY, holds, wordAt, first}
-use Rattle.machine.proofs.Acts.{act-reads, legal-not, illegal-yes}
+use Rattle.machine.specs.Effects.{State, act, moved, meaning, illegal, access, askew, modeSet}
+use Rattle.machine.specs.Record.{DOUBLE-WORDS, MEMORY, holds}
+use Rattle.machine.proofs.Acts.{act-reads, legal-not}
 use Rattle.machine.proofs.Bounds.{Words, Small, act-small, moved-words}
 use Rattle.machine.proofs.Regions.{holds-yes}
 use Rattle.checker.specs.Checks as drawing
-use Rattle.checker.specs.Checks.{admits, outside, violation, next}
-use Rattle.checker.proofs.Tests.{load-inside, store-inside, passes}
+use Rattle.checker.specs.Checks.{outside, next}
+use Rattle.checker.proofs.Tests.{load-inside, store-inside}
 use Rattle.checker.proofs.Beyond.{left-length}
-use Rattle.vamp.specs.Memory.{at, loaded, put}
+use Rattle.vamp.specs.Memory.{at, loaded}
 use Rattle.vamp.specs.Memory as memory
-use Rattle.vamp.specs.Events.{stepped, interrupt, MISALIGNED, ILLEGAL, unmodelled, accessPast, trapped, overflowed, overflowMasked, events, event}
+use Rattle.vamp.specs.Events.{stepped, accessPast, event}
 use Rattle.vamp.specs.Events as ship
 use Rattle.vamp.specs.Steps as ship-steps
 use Rattle.vamp.specs.Steps.{vstep}
 use Rattle.vamp.proofs.Memory.{put-length, part-below}
 use Rattle.agreement.proofs.Relation.{Laid, Image, Same, fetch-same, load-same, store-same}
-use Rattle.agreement.proofs.Plain.{Calm, ByWords, excluded, plain-calm, admitted-plain, admitted-words}
+use Rattle.agreement.proofs.Plain.{Calm, ByWords, excluded, plain-calm}
 
 -- ---- Memory, by the kinds of effect
 

@@ -1,25 +1,23 @@
 -- Demand 3 holds.
-use Prim.Native.Nat.{ℕ, zero, suc, _+_, _*_, _%_, _^_, _≤_, _<_}
-use mathlib.Core.Path.{_≡_, refl, sym, ap, _∙_}
-use mathlib.Core.Bool.{false, true}
+use Prim.Native.Nat.{ℕ, _+_, _*_, _≤_, _<_}
+use mathlib.Core.Path.{_≡_, refl, ap, _∙_}
 use mathlib.Core.List.{List, [], _∷_}
 use native.Mathlib.Omega.{arith}
-use lib.ListN.{getD, length}
 use Rattle.machine.specs.declared.Machine.{Machine}
 use Rattle.machine.specs.Effects.{State}
-use Rattle.machine.specs.Record.{DOUBLE-WORDS, MEMORY, LONGEST, holds, stateOf, wordAt}
+use Rattle.machine.specs.Record.{DOUBLE-WORDS, LONGEST, stateOf}
 use Rattle.machine.proofs.Regions.{right-count, aligned-starts, in-memory, apart-disjoint, holds-in, word-at, image-code, image-data, image-else}
 use Rattle.checker.specs.Checks.{violation}
 use Rattle.checker.specs.Runs.{after}
 use Rattle.checker.proofs.Theorems.{Fine, accepted-only, violation-only}
-use Rattle.vamp.specs.Memory.{at, part}
-use Rattle.vamp.specs.Events.{stepped, interrupt, MISALIGNED, ILLEGAL}
+use Rattle.vamp.specs.Memory.{part}
+use Rattle.vamp.specs.Events.{interrupt, MISALIGNED, ILLEGAL}
 use Rattle.vamp.specs.Steps as vamp
 use Rattle.card.specs.Card.{Bytes, refusal, recordOf, codeBuffer, dataBuffer, memoryBuffer}
 use Rattle.card.proofs.Accepted.{Passes, accepted}
 use Rattle.card.proofs.Memory.{data-length, memory-length, memory-word, record-words}
 use Rattle.agreement.specs.Demand.{drawing, ship, Agree, Together, checker, Stands, Demand-3}
-use Rattle.agreement.proofs.Relation.{Laid, Image, Same}
+use Rattle.agreement.proofs.Relation.{Laid, Same}
 use Rattle.agreement.proofs.Simulation.{all-steps, all-same, raises-21, raises-23, raises-25}
 
 -- Machines that are the same agree, in the demand's words

@@ -78,20 +78,20 @@ abbrev pub stop-27 : Example
 stop-27 = example (card 10 (0x24010001 ∷ 0x00200411 ∷ []) four) 10 (27, 1 ∷ 4 ∷ 0x00200411 ∷ []) (1, mode, 0)
 
 -- Accepted at every count up to 6 and at a later one, and stopped by each number
-abbrev pub shorter : List Example
-shorter = looping 0 ∷ looping 1 ∷ looping 2 ∷ looping 3 ∷ []
+abbrev pub short-runs : List Example
+short-runs = looping 0 ∷ looping 1 ∷ looping 2 ∷ looping 3 ∷ []
 
-abbrev pub longer : List Example
-longer = looping 4 ∷ looping 5 ∷ looping 6 ∷ looping 30 ∷ []
+abbrev pub longer-runs : List Example
+longer-runs = looping 4 ∷ looping 5 ∷ looping 6 ∷ looping 30 ∷ []
 
-abbrev pub stops : List Example
-stops = whole-case ∷ stop-21 ∷ stop-22 ∷ stop-23 ∷ []
+abbrev pub stops-to-23 : List Example
+stops-to-23 = whole-case ∷ stop-21 ∷ stop-22 ∷ stop-23 ∷ []
 
-abbrev pub later-stops : List Example
-later-stops = stop-24 ∷ stop-25 ∷ stop-26 ∷ stop-27 ∷ []
+abbrev pub stops-from-24 : List Example
+stops-from-24 = stop-24 ∷ stop-25 ∷ stop-26 ∷ stop-27 ∷ []
 
 abbrev pub examples : List Example
-examples = shorter ++ longer ++ stops ++ later-stops
+examples = short-runs ++ longer-runs ++ stops-to-23 ++ stops-from-24
 
 -- An example holds: the loader accepts its card, the count is within its limit, and the checker, the call of its run and that of the VAMP answer so
 pub record Holds (e : Example) : Type 0 where

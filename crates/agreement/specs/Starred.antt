@@ -16,7 +16,7 @@ use Rattle.machine.specs.Effects.{State, register, LINK}
 use Rattle.machine.specs.Record.{DOUBLE-WORDS}
 use Rattle.checker.specs.Checks.{violation, next}
 use Rattle.vamp.specs.Events.{stepped}
-use Rattle.vamp.specs.Steps.{Vamp, vstep}
+use Rattle.vamp.specs.Steps.{vstep}
 
 pub data Row : Type 0 where
   -- the word is the instruction
@@ -38,7 +38,7 @@ abbrev pub no-words : Region
 no-words = record { start = 4; words = 0 }
 
 -- A step of the word from a state: the checker breaks no test and the VAMP answers 0 with an empty cause word, and what both leave has a property
-pub record Steps (w : ℕ) (s : State) (leaves : State → Type 0) : Type 0 where
+pub record BothStep (w : ℕ) (s : State) (leaves : State → Type 0) : Type 0 where
   pub no-test : violation one-word no-words (w ∷ []) s ≡ 0
   pub drawn : leaves (next one-word no-words (w ∷ []) (s, []) .0)
   pub no-event : vstep (s, w ∷ replicate (DOUBLE-WORDS - 1) 0) .0 ≡ stepped 0
@@ -46,8 +46,8 @@ pub record Steps (w : ℕ) (s : State) (leaves : State → Type 0) : Type 0 wher
 
 abbrev pub Holds : Row → Type 0
 Holds (reads w i) = reading w ≡ (0, some i)
-Holds (puts w g n v) = Steps w (state 0 4 g) (λ s. register (s .gpr) n ≡ v)
-Holds (goes w d p d′ p′ r) = Steps w (state d p []) (λ s. (s .dpc ≡ d′) × (s .pc ≡ p′) × (register (s .gpr) LINK ≡ r))
+Holds (puts w g n v) = BothStep w (state 0 4 g) (λ s. register (s .gpr) n ≡ v)
+Holds (goes w d p d′ p′ r) = BothStep w (state d p []) (λ s. (s .dpc ≡ d′) × (s .pc ≡ p′) × (register (s .gpr) LINK ≡ r))
 
 abbrev pub starred : List Row
 starred =

@@ -11,7 +11,7 @@ use Rattle.words.specs.Fields.{pick}
 use Rattle.machine.specs.declared.Machine.{Machine}
 use Rattle.machine.specs.Record.{DOUBLE-WORDS, LONGEST, MEMORY, image}
 use Rattle.machine.proofs.Regions.{image-below}
-use Rattle.card.specs.Card.{Bytes, BODY, tab, number32, numbers, recordOf, padded, codeBuffer, dataBuffer, double, memoryBuffer}
+use Rattle.card.specs.Card.{Bytes, BODY, number32, numbers, recordOf, padded, codeBuffer, dataBuffer, double, memoryBuffer}
 use Rattle.card.proofs.Tab.{tab-length, tab-at, tab-below}
 
 -- The word that VAMP memory holds at an address

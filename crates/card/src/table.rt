@@ -2,7 +2,7 @@
 ghost use mathlib.Core.Path.{_≡_};
 ghost use Prim.Native.Nat.{_≤_};
 ghost use lib.ListN.{length};
-ghost use Rattle.card.specs.Card.{refusal, wrongLength, wrongMark, wrongVersion, reservedSet, wrongSize, BODY};
+ghost use Rattle.card.specs.Card.{refusal, wrongLength, wrongMark, reservedSet, wrongSize, BODY};
 ghost use Rattle.card.specs.Work.{fromSix};
 use crate::fields::BODY;
 use crate::fields::VERSION;

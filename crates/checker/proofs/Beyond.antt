@@ -1,8 +1,8 @@
 -- What lies past C and D in the buffers: a run's answer does not depend on it, and the data past D stays as it is.
 use Prim.Native.Nat.{ℕ, zero, suc, _-_, _/_, _%_, _≤_, _<_}
 use mathlib.Core.Path.{_≡_, refl, sym, ap, subst, _∙_}
-use mathlib.Core.Bool.{Bool, true, false, not}
-use mathlib.Core.List.{List, [], _∷_}
+use mathlib.Core.Bool.{Bool, true, false}
+use mathlib.Core.List.{List}
 use native.Mathlib.Omega.{arith}
 use borrow.Author.Tests.{eqb-true, eqb-false, ltb-false}
 use lib.Dec.{eqb, ltb}
@@ -13,7 +13,7 @@ use Rattle.machine.specs.declared.Effect.{Effect}
 use Rattle.machine.specs.declared.Effect.the-variants as does
 use Rattle.machine.specs.declared.Machine.{Machine}
 use Rattle.machine.specs.declared.Region.{Region}
-use Rattle.machine.specs.Effects.{State, act, moved, access}
+use Rattle.machine.specs.Effects.{State, act, moved}
 use Rattle.machine.specs.Record.{holds, wordAt, stateOf}
 use Rattle.machine.proofs.Regions.{placed}
 use Rattle.checker.specs.Checks.{fetched, violation, next, found, left, outside}

@@ -13,7 +13,7 @@ use Rattle.machine.specs.Effects.{State, act}
 use Rattle.machine.specs.Record.{notZero, stateOf}
 use Rattle.machine.proofs.Quiet.{Quiet, ReadsZero, quiet-moved, quiet-record, record-quiet, quiet-reads}
 use Rattle.checker.specs.Checks.{fetched, violation, next, found}
-use Rattle.checker.specs.Runs.{running, told, after, taking, verdictAnswer, stepping, runs}
+use Rattle.checker.specs.Runs.{running, told, after, taking, verdictAnswer}
 use Rattle.checker.specs.declared.Verdict.{Verdict}
 use Rattle.checker.specs.declared.Verdict.the-variants.{Refused, Accepted, Violation}
 use Rattle.checker.proofs.Fold.{run-on, run-stop}

@@ -1,9 +1,8 @@
 -- Document 01, "Words" (its last paragraph) and "Tests of a checked step": what the assembler machine runs, the seven tests, and the step.
-use Prim.Native.Nat.{ℕ, _-_, _/_, _%_}
-use mathlib.Core.Bool.{Bool, true, false, not}
+use Prim.Native.Nat.{ℕ, _-_, _/_}
+use mathlib.Core.Bool.{Bool, false, not}
 use mathlib.Core.List.{List, [], _∷_}
-use mathlib.Core.Option.{Option, none, some}
-use lib.Dec.{eqb}
+use mathlib.Core.Option.{none, some}
 use lib.ListN.{set}
 use Rattle.words.specs.Words.{Form, formR, formI, formJ, form, reading}
 use Rattle.words.specs.declared.Instruction.{Instruction}

@@ -2,9 +2,7 @@
 ghost use mathlib.Core.Path.{_≡_};
 ghost use mathlib.Core.Bool.{false};
 ghost use mathlib.Core.List.{[], _∷_};
-ghost use Prim.Native.Nat.{_≤_};
-ghost use lib.ListN.{length};
-ghost use Rattle.machine.specs.Effects.{askew, modeSet, State};
+ghost use Rattle.machine.specs.Effects.{askew, modeSet};
 ghost use Rattle.machine.specs.Record.{first};
 ghost use Rattle.checker.specs.Checks.{outside, found, left};
 ghost use Rattle.checker.specs.Inner.{Room, Stepped, Offset, modeNumber, accessNumber};

@@ -1,13 +1,13 @@
 -- A line written byte after byte: what is left of a text, put after what is written, comes to the whole.
-use Prim.Native.Nat.{ℕ, zero, suc, _+_, _-_, _*_, _/_, _%_, _^_, _≤_, _<_}
+use Prim.Native.Nat.{ℕ, zero, suc, _+_, _-_, _/_, _%_, _^_, _≤_, _<_}
 use mathlib.Core.Path.{_≡_, refl, sym, ap, _∙_}
 use mathlib.Core.List.{List, [], _∷_, _++_, append-assoc}
 use native.Mathlib.Nat.{pow-succ', div-one, pow-zero, div-div-eq-div-mul}
 use native.Mathlib.Omega.{arith}
-use lib.ListN.{length, getD, drop, set, replicate, length-append, drop-of-length-le}
+use lib.ListN.{length, getD, drop, replicate, length-append, drop-of-length-le}
 use lib.Seq.{drop-cons, set-at}
 use Rattle.judge.specs.declared.lines.Line.{Line}
-use Rattle.judge.specs.Digits.{glyph, digits, places}
+use Rattle.judge.specs.Digits.{glyph, digits}
 use Rattle.judge.specs.Line.{SIZE, lineOf}
 use Rattle.judge.specs.Work.{pushed, appended}
 

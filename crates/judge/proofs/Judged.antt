@@ -2,7 +2,7 @@
 use Prim.Native.Nat.{ℕ, _^_, _<_}
 use mathlib.Core.Path.{_≡_, refl, sym, ap, _∙_}
 use mathlib.Core.Bool.{Bool, true, false}
-use mathlib.Core.List.{List, [], _∷_}
+use mathlib.Core.List.{List}
 use mathlib.Core.Logic.{_⊎_, inl, inr}
 use native.Mathlib.Omega.{arith}
 use borrow.Author.Tests.{eqb-true, eqb-false, ne-eqb, lt-ltb}
@@ -12,15 +12,15 @@ use Rattle.machine.specs.declared.Machine.{Machine}
 use Rattle.machine.specs.declared.Region.{Region}
 use Rattle.machine.specs.Effects.{State}
 use Rattle.machine.specs.Record.{DOUBLE-WORDS, LONGEST, stateOf, withState}
-use Rattle.checker.specs.Checks.{fetched, violation}
-use Rattle.checker.specs.Runs.{running, runs, taking, runRefusal, told, after}
+use Rattle.checker.specs.Checks.{violation}
+use Rattle.checker.specs.Runs.{running, runs, taking, runRefusal, after}
 use Rattle.checker.proofs.Theorems.{Fine, First, ends, accepts, stops-at}
 use Rattle.card.specs.Card.{recordOf, codeBuffer, dataBuffer}
 use Rattle.card.proofs.Accepted.{Passes, accepted}
 use Rattle.card.proofs.Memory.{code-length, data-length}
 use Rattle.judge.specs.declared.Ruling.{Ruling}
 use Rattle.judge.specs.declared.Ruling.the-variants.{Refused, Accepted, Violation}
-use Rattle.judge.specs.Judging.{answerOf, ruled, ranOf, refusedBy, judging}
+use Rattle.judge.specs.Judging.{answerOf, ruled, refusedBy, judging}
 use Rattle.judge.specs.declared.lines.Line.{Line}
 use Rattle.judge.specs.Line.{lineOf, textOf}
 use Rattle.judge.proofs.Ruled.{judging-refused, judging-accepted}

@@ -2,7 +2,7 @@
 use Prim.Native.Nat.{ℕ, zero, suc}
 use mathlib.Core.Path.{_≡_, refl, sym, ap, subst, _∙_}
 use mathlib.Core.Bool.{Bool, true, false}
-use mathlib.Core.List.{List, [], _∷_}
+use mathlib.Core.List.{List, []}
 use mathlib.Core.Logic.{_⊎_, inl, inr}
 use native.Mathlib.Omega.{arith}
 use borrow.Author.Tests.{eqb-true, eqb-false, ne-eqb}
@@ -19,10 +19,9 @@ use Rattle.checker.specs.Checks.{violation}
 use Rattle.checker.specs.declared.Outcome.{Outcome}
 use Rattle.checker.specs.Runs.{verdictAnswer, running, after, taking, runs}
 use Rattle.checker.proofs.Theorems.{Fine, First, ends, accepts, stops-at}
-use Rattle.card.specs.declared.Answer.{Answer}
 use Rattle.card.specs.declared.Answer.the-variants as is
 use Rattle.card.specs.declared.Loaded.{Loaded}
-use Rattle.card.specs.Card.{refusal, answerOf, loading}
+use Rattle.card.specs.Card.{answerOf, loading}
 use Rattle.card.proofs.Results.{Meets, refused-by, loading-accepted, loading-refused, loaded-accepted}
 use Rattle.judge.specs.Judging.{ruled, refusedBy, ranOf, judging}
 use Rattle.judge.specs.Work.{rulingOf}

@@ -1,8 +1,8 @@
 -- Registers hold words: no effect of a word that is read puts or stores a number from 2 ^ 32 on, where the registers hold none.
-use Prim.Native.Nat.{ℕ, zero, suc, _+_, _-_, _*_, _/_, _%_, _^_, _≤_, _<_}
-use mathlib.Core.Path.{_≡_, refl, sym, ap, subst, _∙_}
+use Prim.Native.Nat.{ℕ, suc, _-_, _/_, _%_, _^_, _≤_, _<_}
+use mathlib.Core.Path.{_≡_, refl}
 use mathlib.Core.Bool.{Bool, true, false}
-use mathlib.Core.List.{List, [], _∷_}
+use mathlib.Core.List.{List}
 use mathlib.Core.Logic.{_⊎_, inl, inr}
 use mathlib.Core.Option.{none, some}
 use native.Mathlib.Omega.{arith}
@@ -28,7 +28,7 @@ use Rattle.words.proofs.Numbering.{filled}
 use Rattle.words.proofs.Again.{read-filled}
 use Rattle.machine.specs.declared.Effect.{Effect}
 use Rattle.machine.specs.declared.Effect.the-variants as does
-use Rattle.machine.specs.Rulings.{plus, minus, integer, sext, high, shifted, bit, satisfies, compared, beyond}
+use Rattle.machine.specs.Rulings.{plus, minus, integer, sext, high, shifted, bit, satisfies, compared}
 use Rattle.machine.specs.Effects.{State, register, put, putSpecial, computed, meaning, applied, act, moved, thirteen, one-of, SR, ESR}
 use Rattle.machine.proofs.Acts.{word-reads, act-reads, act-illegal}
 use Rattle.machine.proofs.Integers.{integer-low, integer-high}

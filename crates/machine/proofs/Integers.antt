@@ -1,7 +1,7 @@
 -- Words as integers: what the code computes by cases on the sign is what the definitions say of the numbers meant.
-use Prim.Native.Nat.{ℕ, suc, _+_, _-_, _*_, _/_, _%_, _^_, _≤_, _<_}
+use Prim.Native.Nat.{ℕ, suc, _+_, _-_, _/_, _%_, _^_, _≤_, _<_}
 use mathlib.Core.Path.{_≡_, refl, sym, ap, ap₂, _∙_}
-use mathlib.Core.Bool.{Bool, true, false, not, _&&_}
+use mathlib.Core.Bool.{Bool, true, false, not}
 use native.Mathlib.Omega.{arith}
 use borrow.Author.Tests.{lt-ltb, le-ltb, ltb-true, ltb-false, le-leb, lt-leb, leb-true, leb-false}
 use lib.Dec.{T, ltb, leb}
@@ -9,8 +9,7 @@ use lib.IntN.{ℤ, pos, negsuc, negℤ, _+ℤ_, _-ℤ_, natAbs, +ℤ-assoc, +ℤ
 use lib.Signed.{mag, nonNeg, ltZ, leZ, shrZ}
 use mir.Syntax.{w32, w64}
 use mir.Val.{Fits, SFits, toZ, ofZ}
-use mir.Facts.{toZ-ofZ, toZ-pos}
-use Rattle.words.specs.Fields.{pick, signed}
+use mir.Facts.{toZ-ofZ}
 use Rattle.words.proofs.Signed.{kept, signed-low, signed-high, biased, biased-sum, difference, shortfall}
 use Rattle.machine.specs.Rulings.{integer, sext, beyond}
 

@@ -1,6 +1,6 @@
 -- Document 01, "What an instruction does", over tables 1.2 to 1.4: the effect of each instruction and its next PC', and what an effect leaves in the registers.
 use Prim.Native.Nat.{ℕ, _*_, _%_, _^_}
-use mathlib.Core.Bool.{Bool, true, false, not, _&&_, _||_}
+use mathlib.Core.Bool.{Bool, false, not, _&&_, _||_}
 use mathlib.Core.List.{List, [], _∷_}
 use lib.Bits.{bitAnd, bitOr, bitXor}
 use lib.Dec.{eqb}

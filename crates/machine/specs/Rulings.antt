@@ -1,9 +1,8 @@
 -- Document 01, "What an instruction does": the rulings on words of 32 bits.
 use Prim.Native.Nat.{ℕ, _+_, _-_, _*_, _/_, _%_, _^_}
-use mathlib.Core.Bool.{Bool, true, false, not, _&&_}
-use lib.Bits.{bitAnd, bitOr, bitXor}
-use lib.Dec.{eqb, ltb}
-use lib.IntN.{ℤ, pos, negsuc, negℤ, _+ℤ_, _-ℤ_}
+use mathlib.Core.Bool.{Bool, not, _&&_}
+use lib.Dec.{eqb}
+use lib.IntN.{ℤ, pos, negsuc, negℤ}
 use lib.Signed.{ltZ, leZ, shrZ}
 use Rattle.words.specs.Fields.{pick, signed}
 use Rattle.words.specs.declared.Shift.{Shift}

@@ -1,6 +1,6 @@
 -- What no step changes: the length of memory, and a record's regions and limit.
 use Prim.Native.Nat.{ℕ, zero, suc}
-use mathlib.Core.Path.{_≡_, refl, sym, ap, subst, _∙_}
+use mathlib.Core.Path.{_≡_, refl, ap, _∙_}
 use mathlib.Core.Bool.{Bool, true, false, not}
 use mathlib.Core.List.{List}
 use borrow.Author.Tests.{eqb-true, eqb-false}
@@ -12,7 +12,7 @@ use Rattle.machine.specs.declared.Machine.{Machine}
 use Rattle.machine.specs.declared.Effect.{Effect}
 use Rattle.machine.specs.declared.Effect.the-variants as does
 use Rattle.machine.specs.Effects.{act}
-use Rattle.machine.specs.Record.{DOUBLE-WORDS, notZero, stateOf, withState}
+use Rattle.machine.specs.Record.{DOUBLE-WORDS, notZero}
 use Rattle.vamp.specs.Memory.{stored}
 use Rattle.vamp.specs.Events.{fetched}
 use Rattle.vamp.specs.Steps.{Vamp, memoryAfter, vstep, after, stepping, running}

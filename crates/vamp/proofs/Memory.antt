@@ -8,7 +8,7 @@ use native.Mathlib.Omega.{arith}
 use borrow.Author.Tests.{eqb-true, eqb-false, ltb-true, ltb-false}
 use lib.Arith.{digits-lt}
 use lib.Dec.{eqb, ltb}
-use lib.ListN.{getD, set, length, length-set}
+use lib.ListN.{getD, length, length-set}
 use lib.Pow.{pow-pos, pow-add, shr-lt, shr-shr, high, low, field, mod-mod-pow, mod-pow-add}
 use lib.Seq.{getD-set-same, getD-set-other, set-out}
 use Rattle.words.specs.Fields.{pick}

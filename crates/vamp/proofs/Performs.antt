@@ -1,6 +1,6 @@
 -- A step by what its parts give: the reading of the word, its meaning, what the effect asks of memory, and the registers after it.
 use Prim.Native.Nat.{ℕ, _%_, _≤_, _<_}
-use mathlib.Core.Path.{_≡_, refl, sym, ap, ap₂, _∙_}
+use mathlib.Core.Path.{_≡_, sym, ap, ap₂, _∙_}
 use mathlib.Core.Bool.{Bool, not}
 use mathlib.Core.List.{List}
 use mathlib.Core.Option.{Option, none, some}
@@ -10,11 +10,11 @@ use Rattle.words.specs.Fields.{pick}
 use Rattle.words.specs.Words.{reading}
 use Rattle.words.specs.declared.Instruction.{Instruction}
 use Rattle.machine.specs.declared.Effect.{Effect}
-use Rattle.machine.specs.Effects.{State, act, meaning, applied, moved}
+use Rattle.machine.specs.Effects.{act, meaning, applied, moved}
 use Rattle.machine.specs.Record.{MEMORY}
 use Rattle.machine.specs.Effects.{illegal}
 use Rattle.vamp.specs.Events.{fetched, event, interrupt, past, ILLEGAL, MISALIGNED}
-use Rattle.vamp.specs.Steps.{Vamp, found, memoryAfter, took, taken, carried, vstep}
+use Rattle.vamp.specs.Steps.{Vamp, found, memoryAfter, taken, carried, vstep}
 use Rattle.vamp.specs.Inner.{parts, wordEvent, effectEvent, touched}
 use Rattle.vamp.proofs.Tests.{took-yes, took-not}
 

@@ -1,13 +1,13 @@
 -- What the code shifts: nothing is lost where a part lies inside a double word.
 use Prim.Native.Nat.{ℕ, _+_, _-_, _*_, _/_, _%_, _^_, _≤_, _<_}
-use mathlib.Core.Path.{_≡_, refl, sym, ap, subst, _∙_}
+use mathlib.Core.Path.{_≡_, sym, ap, _∙_}
 use native.Mathlib.Nat.{mod-lt, add-mul, lt-of-lt-of-le}
 use native.Mathlib.Omega.{arith}
 use lib.Pow.{pow-pos, pow-mono, shl-exact, shr-shr, split}
 use Rattle.words.specs.Fields.{signed}
 use Rattle.words.proofs.Signed.{signed-low, signed-high}
 use Rattle.machine.specs.Rulings.{sext}
-use Rattle.vamp.specs.Memory.{part, patch}
+use Rattle.vamp.specs.Memory.{patch}
 use Rattle.vamp.proofs.Memory.{patch-below}
 
 -- The range of a part of b bits

@@ -1,11 +1,10 @@
 -- What the tests of an access say.
-use Prim.Native.Nat.{ℕ, _%_, _≤_, _<_}
+use Prim.Native.Nat.{ℕ, _%_, _<_}
 use mathlib.Core.Path.{_≡_, refl, sym, ap, _∙_}
-use mathlib.Core.Bool.{Bool, true, false, not}
+use mathlib.Core.Bool.{Bool, true, false}
 use native.Mathlib.Omega.{arith}
 use borrow.Author.Tests.{eq-eqb, ne-eqb, eqb-true, not-false, leb-false}
-use lib.Dec.{eqb, leb}
-use Rattle.words.specs.Fields.{pick}
+use lib.Dec.{eqb}
 use Rattle.machine.specs.Record.{MEMORY}
 use Rattle.machine.specs.Effects.{unaligned}
 use Rattle.vamp.specs.Events.{unmodelled}

@@ -7,11 +7,11 @@ use borrow.Author.Tests.{eqb-true, eqb-false}
 use lib.Dec.{eqb}
 use lib.ListN.{length}
 use Rattle.machine.specs.declared.Machine.{Machine}
-use Rattle.machine.specs.Effects.{State, act}
+use Rattle.machine.specs.Effects.{act}
 use Rattle.machine.specs.Record.{DOUBLE-WORDS, notZero, stateOf, withState}
 use Rattle.machine.proofs.Quiet.{Quiet, ReadsZero, quiet-moved, quiet-record, record-quiet, quiet-reads}
 use Rattle.vamp.specs.Events.{fetched, event}
-use Rattle.vamp.specs.Steps.{Vamp, Course, found, vstep, after, onward, start, stepping, running}
+use Rattle.vamp.specs.Steps.{Vamp, found, vstep, after, onward, start, stepping, running}
 use Rattle.vamp.proofs.Calls.{either}
 use Rattle.vamp.proofs.Onward.{step-kept, step-carried}
 use Rattle.vamp.proofs.Order.{passed}

@@ -1,6 +1,6 @@
 -- Document 01, "Events of a VAMP step" and "The run card": a step, a sequence of steps, and what the public calls answer.
 use Prim.Native.Nat.{ℕ, zero, suc, _+_}
-use mathlib.Core.Bool.{Bool, true, false, not}
+use mathlib.Core.Bool.{true, false, not}
 use mathlib.Core.List.{List, [], _∷_}
 use lib.Dec.{eqb}
 use lib.ListN.{length}

@@ -1,17 +1,17 @@
 -- A legal word, read and made again, gives that word with its unused fields zero.
-use Prim.Native.Nat.{ℕ, suc, _+_, _-_, _*_, _%_, _^_, _≤_, _<_}
-use mathlib.Core.Path.{_≡_, refl, sym, ap, ap₂, subst, _∙_}
-use mathlib.Core.Bool.{Bool, true, false, not, _&&_}
+use Prim.Native.Nat.{ℕ, suc, _-_, _*_, _%_, _^_, _≤_, _<_}
+use mathlib.Core.Path.{_≡_, refl, sym, ap, _∙_}
+use mathlib.Core.Bool.{Bool, true, false}
 use mathlib.Core.List.{List, [], _∷_, map}
-use mathlib.Core.Option.{Option, none, some}
+use mathlib.Core.Option.{Option, some}
 use native.Mathlib.Nat.{zero-add}
 use native.Mathlib.Omega.{arith}
 use borrow.Author.Tests.{lt-ltb, ltb-true, ltb-false, eqb-true}
-use lib.Dec.{T, ltb, eqb}
-use lib.IntN.{ℤ, pos, negsuc}
+use lib.Dec.{ltb, eqb}
+use lib.IntN.{ℤ}
 use lib.Signed.{mag}
 use Rattle.words.specs.Fields.{pick, opcode, function, field, rs1, second, third, amount, signed, immediate16, immediate26}
-use Rattle.words.specs.Words.{Field, used, unused, Form, formR, formI, formJ, form, instructions, reading, among, numbered, making, laid, fits, word, small, ranged, number, modulus, kept, cleared}
+use Rattle.words.specs.Words.{Field, used, unused, Form, formR, formI, formJ, form, instructions, reading, among, numbered, making, laid, small, ranged, number, modulus, kept, cleared}
 use Rattle.words.specs.declared.Instruction.{Instruction}
 use Rattle.words.specs.declared.Instruction.the-variants.{ShiftImmediate, ShiftRegister, Movs2i, Movi2s, ArithmeticRegister, Lhg, Clr, CompareRegister, Set, J, Jal, Trap, Rfe, Beqz, Bnez, ArithmeticImmediate, Lhgi, Jr, Jalr, Clri, CompareImmediate, Seti, Load, Store}
 use Rattle.words.proofs.Signed.{signed-low, signed-high, ranged-yes}

@@ -1,16 +1,15 @@
 -- A made word reads back as the instruction that it was made from.
-use Prim.Native.Nat.{ℕ, suc, _+_, _-_, _*_, _/_, _%_, _^_, _≤_, _<_}
-use mathlib.Core.Path.{_≡_, refl, sym, ap, ap₂, subst, _∙_}
-use mathlib.Core.Bool.{Bool, true, false, not, _&&_}
+use Prim.Native.Nat.{ℕ, suc, _+_, _-_, _*_, _%_, _^_, _<_}
+use mathlib.Core.Path.{_≡_, refl, ap, _∙_}
+use mathlib.Core.Bool.{Bool, true, false, _&&_}
 use mathlib.Core.Option.{Option, none, some}
-use native.Mathlib.Nat.{zero-add}
 use native.Mathlib.Omega.{arith}
 use borrow.Author.Tests.{ltb-true}
-use lib.Dec.{T, ltb, lit<}
+use lib.Dec.{lit<}
 use lib.IntN.{ℤ, pos, negsuc}
 use lib.Signed.{mag}
 use Rattle.words.specs.Fields.{pick, opcode, function, field, rs1, second, third, amount, signed, immediate16, immediate26}
-use Rattle.words.specs.Words.{Field, used, unused, Form, formR, formI, formJ, form, reading, making, laid, fits, word, small, ranged, number, modulus, shiftImmediateNo, shiftRegisterNo, arithmeticRegisterNo, compareRegisterNo}
+use Rattle.words.specs.Words.{Field, used, unused, Form, formR, formI, formJ, form, reading, making, laid, fits, word, small, ranged, number, modulus}
 use Rattle.words.specs.declared.Instruction.{Instruction}
 use Rattle.words.specs.declared.Instruction.the-variants.{ShiftImmediate, ShiftRegister, Movs2i, Movi2s, ArithmeticRegister, Lhg, Clr, CompareRegister, Set, J, Jal, Trap, Rfe, Beqz, Bnez, ArithmeticImmediate, Lhgi, Jr, Jalr, Clri, CompareImmediate, Seti, Load, Store}
 use Rattle.words.specs.declared.Shift.the-variants.{Sll, Sla, Srl, Sra}

@@ -1,8 +1,8 @@
 -- Exactly 58 combinations of opcode and function are legal, and a word of any other answers 23.
 use Prim.Native.Nat.{ℕ, zero, suc, _+_}
-use mathlib.Core.Path.{_≡_, refl, sym, ap, _∙_}
+use mathlib.Core.Path.{_≡_, refl, sym, _∙_}
 use mathlib.Core.Bool.{Bool, true, false}
-use mathlib.Core.List.{List, [], _∷_, map}
+use mathlib.Core.List.{List, [], _∷_}
 use mathlib.Core.Option.{Option, none, some}
 use Rattle.words.specs.Fields.{pick, opcode, function}
 use Rattle.words.proofs.Signed.{false-true}

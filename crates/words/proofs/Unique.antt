@@ -1,7 +1,7 @@
 -- Two results that meet one promise are equal: the paper's number and values determine the answer.
 use Prim.Native.Nat.{ℕ}
 use mathlib.Core.Path.{_≡_, refl, sym, ap, _∙_}
-use mathlib.Core.Option.{Option, none, some}
+use mathlib.Core.Option.{Option, some}
 use native.Mathlib.Omega.{arith}
 use Rattle.words.specs.Words.{reading, readingAnswer, making, madeAnswer}
 use Rattle.words.specs.declared.Instruction.{Instruction}

@@ -2,7 +2,7 @@
 ghost use mathlib.Core.Path.{_≡_};
 ghost use Prim.Native.Nat.{_≤_};
 ghost use mathlib.Core.Option.{some};
-ghost use Rattle.words.specs.Fields.{opcode, function};
+ghost use Rattle.words.specs.Fields.{opcode};
 ghost use Rattle.words.specs.Words.{reading, readingAnswer};
 use crate::Instruction;
 use crate::LoadKind;

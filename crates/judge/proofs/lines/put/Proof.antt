@@ -1,10 +1,8 @@
 use Rattle.judge.proofs.Appending.{Putting, putting-more, putting-all}
-use Rattle.judge.specs.Work.{appended}
-use Rattle.judge.proofs.Appending.{append-none, append-next, push-length}
 use native.Mathlib.Omega.{arith}
-use mathlib.Core.Path.{_≡_, refl, _∙_, ap}
-use lib.ListN.{length, drop}
-use Prim.Native.Nat.{_+_, _-_, _≤_}
+use mathlib.Core.Path.{refl}
+use lib.ListN.{length}
+use Prim.Native.Nat.{_-_}
 use Rattle.judge.proofs.lines.put.Statement.{statement}
 use Rattle.judge.proofs.lines.put.Tie as tie
 use Rattle.judge.proofs.lines.put.Reads as reads
