@@ -13,13 +13,14 @@ use Rattle.words.specs.declared.StoreKind.{StoreKind}
 use Rattle.machine.specs.declared.Effect.{Effect}
 use Rattle.machine.specs.declared.Effect.the-variants as does
 use Rattle.machine.specs.declared.Region.{Region}
+use Rattle.words.specs.Fields.{pick}
 use Rattle.words.specs.Words.{reading}
 use Rattle.words.specs.declared.Instruction.{Instruction}
 use Rattle.machine.specs.Effects.{State, illegal, access, act, meaning, applied, moved, askew, modeSet}
 use Rattle.machine.specs.Record.{holds, wordAt, first}
 use Rattle.machine.proofs.Acts.{act-reads, legal-not}
 use Rattle.machine.proofs.Regions.{holds-in}
-use Rattle.checker.specs.Checks.{outside, admits, foreign, fetched, violation, found, left, next}
+use Rattle.checker.specs.Checks.{outside, admits, foreign, fetched, table, violation, found, left, next}
 use Rattle.checker.specs.Inner.{Offset}
 
 -- A load or store that is not outside the region has an address in it
@@ -137,26 +138,25 @@ passes c d code s z =
       calm = p .6;
     }
 
--- A violation's number is one of the table's
+-- A violation's number is one of the table's, in whatever order they stand
 abbrev Numbered : ℕ → Type 0
 Numbered n = 0 < n → (20 < n) × (n < 28)
 
-numbered : (a b c d e f g : Bool) → Numbered (first ((a, 21) ∷ (b, 22) ∷ (c, 23) ∷ (d, 24) ∷ (e, 25) ∷ (f, 26) ∷ (g, 27) ∷ []) 0)
-numbered true b c d e f g z = omega arith
-numbered false true c d e f g z = omega arith
-numbered false false true d e f g z = omega arith
-numbered false false false true e f g z = omega arith
-numbered false false false false true f g z = omega arith
-numbered false false false false false true g z = omega arith
-numbered false false false false false false true z = omega arith
-numbered false false false false false false false z = absurd (omega arith)
+abbrev AllNumbered : List (Bool × ℕ) → Type 0
+AllNumbered [] = Unit {0}
+AllNumbered (t ∷ ts) = Numbered (t .1) × AllNumbered ts
+
+first-numbered : (ts : List (Bool × ℕ)) → AllNumbered ts → Numbered (first ts 0)
+first-numbered [] a = λ z. absurd (omega arith)
+first-numbered (t ∷ ts) a = either (t .0) (t .1) (first ts 0) (a .0) (first-numbered ts (a .1))
+  where
+    either : (b : Bool) (n r : ℕ) → Numbered n → Numbered r → Numbered (pick b n r)
+    either true n r x y = x
+    either false n r x y = y
 
 pub violation-number : (c d : Region) (code : List ℕ) (s : State) → 0 < violation c d code s → (20 < violation c d code s) × (violation c d code s < 28)
 unfolding violation
-violation-number c d code s =
-    let w = fetched c code s in
-    let e = act w s .0 in
-    numbered (not (eqb (s .dpc % 4) 0)) (not (holds c (s .dpc))) (illegal w) (foreign w) (askew e) (outside d e) (modeSet e)
+violation-number c d code s = first-numbered (table c d code s) (λ z. omega arith, (λ z. omega arith, (λ z. omega arith, (λ z. omega arith, (λ z. omega arith, (λ z. omega arith, (λ z. omega arith, tt)))))))
 
 -- A step that is stopped: which tests it passed, and the one that it broke
 stopped-by : (a b c d e f g : Bool) (n : ℕ) → first ((a, 21) ∷ (b, 22) ∷ (c, 23) ∷ (d, 24) ∷ (e, 25) ∷ (f, 26) ∷ (g, 27) ∷ []) 0 ≡ n

@@ -48,20 +48,23 @@ outside d e = elim (access e) [ some p ↦ not (holds d (p .1)) | none ↦ false
 abbrev pub fetched : Region → List ℕ → State → ℕ
 fetched c code s = wordAt c code (s .dpc)
 
--- The number of the first test that the step would break, 0 where it breaks none
-unfoldable pub violation : Region → Region → List ℕ → State → ℕ
-violation c d code s =
+-- The tests with their numbers, in the document's order
+abbrev pub table : Region → Region → List ℕ → State → List (Bool × ℕ)
+table c d code s =
     let w = fetched c code s in
     let e = act w s .0 in
-    first
-    ((unaligned 4 (s .dpc), 21)
+    (unaligned 4 (s .dpc), 21)
     ∷ (not (holds c (s .dpc)), 22)
     ∷ (illegal w, 23)
     ∷ (foreign w, 24)
     ∷ (askew e, 25)
     ∷ (outside d e, 26)
     ∷ (modeSet e, 27)
-    ∷ []) 0
+    ∷ []
+
+-- The number of the first test that the step would break, 0 where it breaks none
+unfoldable pub violation : Region → Region → List ℕ → State → ℕ
+violation c d code s = first (table c d code s) 0
 
 -- ---- The step
 
