@@ -1,10 +1,10 @@
 -- The statement is about something: cards are accepted, and each reason to stop occurs.
-use Prim.Native.Nat.{ℕ, zero, suc, _+_, _*_, _≤_, _<_}
+use Prim.Native.Nat.{ℕ, zero, suc, _+_, _-_, _*_, _≤_, _<_}
 use native.Mathlib.Omega.{arith}
-use borrow.Author.Tests.{ltb-true, le-ltb}
+use borrow.Author.Tests.{ltb-true}
 use lib.Dec.{T, ltb, leb, lit≤}
 use lib.ListN.{getD, replicate}
-use mathlib.Core.Bool.{Bool, true, false, _&&_}
+use mathlib.Core.Bool.{Bool, true, false}
 use Rattle.words.specs.Fields.{pick}
 use mathlib.Core.Path.{_≡_, refl, ap, _∙_}
 use mathlib.Core.List.{List, [], _∷_, _++_}
@@ -14,10 +14,10 @@ use Rattle.words.specs.Fields.{opcode, function, field, immediate16, immediate2
 use Rattle.words.specs.Words.{reading}
 use Rattle.machine.specs.Rulings.{plus, sext}
 use Rattle.machine.specs.Effects.{act, moved, meaning, applied, register, put, putSpecial, access, askew, modeSet, illegal}
-use Rattle.machine.specs.Record.{holds, wordAt, image}
+use Rattle.machine.specs.Record.{wordAt, image}
 use Rattle.machine.specs.declared.Machine.{Machine}
 use Rattle.machine.specs.declared.Region.{Region}
-use Rattle.machine.proofs.Regions.{image-else}
+use Rattle.machine.proofs.Regions.{holds-out, image-else}
 use Rattle.card.proofs.Tab.{tab-zeros}
 use Rattle.checker.specs.Checks.{violation, next, found, left, outside, foreign, admits}
 use Rattle.checker.specs.Runs.{running, after}
@@ -52,22 +52,15 @@ small-bytes (x ∷ xs) t (suc i) = by (ltb x 256) t (small-bytes xs)
 
 -- ---- VAMP memory of a small card: its first double words, and zeros
 
-holds-not : (r : Region) (a : ℕ) → r .start + 4 * r .words ≤ a → holds r a ≡ false
-holds-not r a l = rw (le-ltb a (r .start + 4 * r .words) l) (neither (leb (r .start) a))
-  where
-    neither : (b : Bool) → b && false ≡ false
-    neither true = refl
-    neither false = refl
-
 image-past : (c d : Region) (code ws : List ℕ) (a : ℕ) → c .start + 4 * c .words ≤ a → d .start + 4 * d .words ≤ a → image c d code ws a ≡ 0
-image-past c d code ws a l h = image-else c d code ws a (holds-not c a l) (holds-not d a h)
+image-past c d code ws a l h = image-else c d code ws a (holds-out c a l) (holds-out d a h)
 
 -- Both regions end below the first FEW double words
 abbrev FEW : ℕ
 FEW = 34
 
 abbrev small-memory : List ℕ → List ℕ
-small-memory card = tab (double (recordOf card .code) (recordOf card .«data») (codeBuffer card) (dataBuffer card)) FEW ++ replicate 2014 0
+small-memory card = tab (double (recordOf card .code) (recordOf card .«data») (codeBuffer card) (dataBuffer card)) FEW ++ replicate (DOUBLE-WORDS - FEW) 0
 
 double-past : (c d : Region) (code ws : List ℕ) (i : ℕ) → c .start + 4 * c .words ≤ 8 * i → d .start + 4 * d .words ≤ 8 * i → double c d code ws i ≡ 0
 unfolding double
@@ -81,7 +74,7 @@ memory-small card x y =
     let d = recordOf card .«data» in
     let l : c .start + 4 * c .words ≤ 8 * FEW = lit≤ x in
     let h : d .start + 4 * d .words ≤ 8 * FEW = lit≤ y in
-    tab-zeros (double c d (codeBuffer card) (dataBuffer card)) FEW 2014 (λ i k. double-past c d (codeBuffer card) (dataBuffer card) i (omega arith) (omega arith))
+    tab-zeros (double c d (codeBuffer card) (dataBuffer card)) FEW (DOUBLE-WORDS - FEW) (λ i k. double-past c d (codeBuffer card) (dataBuffer card) i (omega arith) (omega arith))
 
 -- What is looked at of the VAMP's steps: how many, the last answer, and how many reported a cause
 abbrev told : ℕ × (ℕ × ℕ) × ℕ × Machine × List ℕ → ℕ × (ℕ × ℕ) × ℕ

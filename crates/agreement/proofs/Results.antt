@@ -175,15 +175,14 @@ module _ (card : List ℕ) (b : Bytes card) (ok : refusal card LONGEST LONGEST D
                   ∙ ap (λ (i : ℕ). (v, i ∷ drawing card k .0 .dpc ∷ told v (fetched (r .code) (codeBuffer card) (drawing card k .0)) ∷ [])) (zero-add k);
             }
 
-    -- The events
-    fetch-21 : (k x w : ℕ) → ran card n .0 ≡ (21, k ∷ x ∷ w ∷ []) → Raises card k MISALIGNED
-    fetch-21 k x w e = let s = stopped-steps 21 k x w (omega arith) e in let h = s .0 in raises k MISALIGNED (omega arith) (s .1) (event-21 card b ok k (s .1) (s .2))
-
-    word-23 : (k x w : ℕ) → ran card n .0 ≡ (23, k ∷ x ∷ w ∷ []) → Raises card k ILLEGAL
-    word-23 k x w e = let s = stopped-steps 23 k x w (omega arith) e in let h = s .0 in raises k ILLEGAL (omega arith) (s .1) (event-23 card b ok k (s .1) (s .2))
-
-    access-25 : (k x w : ℕ) → ran card n .0 ≡ (25, k ∷ x ∷ w ∷ []) → Raises card k MISALIGNED
-    access-25 k x w e = let s = stopped-steps 25 k x w (omega arith) e in let h = s .0 in raises k MISALIGNED (omega arith) (s .1) (event-25 card b ok k (s .1) (s .2))
+    -- The events: where a test's number is an event of the VAMP at the same step, a run that stops by it raises it
+    event-raises : (v cause : ℕ) → 0 < v
+        → ((k : ℕ) → Ok card b ok k → violation (r .code) (r .«data») (codeBuffer card) (drawing card k .0) ≡ v → vstep (ship card k) .0 ≡ interrupt cause)
+        → (k x w : ℕ) → ran card n .0 ≡ (v, k ∷ x ∷ w ∷ []) → Raises card k cause
+    event-raises v cause z event k x w e =
+        let s = stopped-steps v k x w z e in
+        let h = s .0 in
+        raises k cause (omega arith) (s .1) (event k (s .1) (s .2))
 
     stops-through : (v k x w : ℕ) → 0 < v → ran card n .0 ≡ (v, k ∷ x ∷ w ∷ []) → (j : ℕ) → j ≤ k → Follows card j
     stops-through v k x w z e j h = let s = stopped-steps v k x w z e in let q = s .0 in all-follow k (omega arith) (s .1) j h
@@ -194,9 +193,9 @@ module _ (card : List ℕ) (b : Bytes card) (ok : refusal card LONGEST LONGEST D
           answered = answered;
           accepted = λ e. all-follow n l (accepted-steps e);
           stopped = λ v k x w z e. (stopped-leaves v k x w z e, stops-through v k x w z e);
-          misaligned-fetch = fetch-21;
-          illegal-word = word-23;
-          misaligned-access = access-25;
+          misaligned-fetch = event-raises 21 MISALIGNED (omega arith) (event-21 card b ok);
+          illegal-word = event-raises 23 ILLEGAL (omega arith) (event-23 card b ok);
+          misaligned-access = event-raises 25 MISALIGNED (omega arith) (event-25 card b ok);
         }
 
 -- A card that is loaded, into whatever buffers, is not refused by the table

@@ -13,7 +13,7 @@ use Rattle.words.specs.declared.Instruction.{Instruction}
 use Rattle.words.specs.declared.LoadKind.{LoadKind}
 use Rattle.words.specs.declared.LoadKind.the-variants.{Lw}
 use Rattle.words.specs.declared.StoreKind.{StoreKind}
-use Rattle.words.specs.declared.StoreKind.the-variants.{Sb, Sh, Sw}
+use Rattle.words.specs.declared.StoreKind.the-variants.{Sw}
 use Rattle.machine.specs.declared.Effect.{Effect}
 use Rattle.machine.specs.declared.Effect.the-variants as does
 use Rattle.machine.specs.declared.Region.{Region}
@@ -32,7 +32,8 @@ use Rattle.vamp.specs.Events.{stepped, accessPast, event}
 use Rattle.vamp.specs.Events as ship
 use Rattle.vamp.specs.Steps as ship-steps
 use Rattle.vamp.specs.Steps.{vstep}
-use Rattle.vamp.proofs.Memory.{put-length, part-below}
+use Rattle.vamp.proofs.Kept.{kept-length}
+use Rattle.vamp.proofs.Memory.{part-below}
 use Rattle.agreement.proofs.Relation.{Laid, Image, Same, fetch-same, load-same, store-same}
 use Rattle.agreement.proofs.Plain.{Calm, ByWords, excluded, plain-calm}
 
@@ -81,18 +82,6 @@ module _ (c d : Region) (l : Laid c d) (code ws mem : List ℕ) (i : Image c d c
   not-past (does.Trap z) o = refl
   not-past does.Return o = refl
   not-past does.Nothing o = refl
-
--- Memory keeps its size
-kept-length : (e : Effect) (mem : List ℕ) → length (ship-steps.memoryAfter e mem) ≡ length mem
-unfolding ship-steps.memoryAfter memory.stored
-kept-length (does.Put n x) mem = refl
-kept-length (does.PutSpecial n x) mem = refl
-kept-length (does.Sum n x t) mem = refl
-kept-length (does.Load k n a) mem = refl
-kept-length (does.Store k a x) mem = elim k [ Sb ↦ put-length 8 mem a x | Sh ↦ put-length 16 mem a x | Sw ↦ put-length 32 mem a x ]
-kept-length (does.Trap z) mem = refl
-kept-length does.Return mem = refl
-kept-length does.Nothing mem = refl
 
 -- A word that is loaded is a word
 found-small : (e : Effect) (mem : List ℕ) → ByWords e → ship-steps.found e mem < 2 ^ 32

@@ -52,7 +52,7 @@ pub record Stops (card : List ℕ) (n : ℕ) : Type 0 where
   pub step : ℕ
   pub counter : ℕ
   pub word : ℕ
-  pub a-test : (20 < number) × (number < 28)
+  pub a-test : (21 ≤ number) × (number ≤ 27)
   pub before : step < n
   pub says : ran card n .0 ≡ (number, step ∷ counter ∷ word ∷ [])
 

@@ -19,7 +19,7 @@ use Rattle.machine.proofs.Regions.{placed}
 use Rattle.checker.specs.Checks.{fetched, violation, next, found, left, outside}
 use Rattle.checker.specs.Runs.{running, taking, told}
 use Rattle.checker.proofs.Tests.{load-inside, store-inside, stop-21, stop-22, passes}
-use Rattle.checker.proofs.Fold.{run-on, run-stop}
+use Rattle.checker.proofs.Fold.{run-on, run-stop, run-keeps}
 
 -- Two lists agree on a region's words
 abbrev pub Agree : Region → List ℕ → List ℕ → Type 0
@@ -91,41 +91,26 @@ module _ (c d : Region) (code : List ℕ) where
   unfolding next
   next-past p z i l = left-past d (p .1) (act (fetched c code (p .0)) (p .0) .0) (passes c d code (p .0) z .inside) i l
 
-  run-past : (n k : ℕ) (p : State × List ℕ) (i : ℕ) → d .words ≤ i → getD (running c d code k n p .1 .1) i 0 ≡ getD (p .1) i 0
-  unfolding running
-  run-past zero k p i l = refl
-  run-past (suc n) k p i l = by (violation c d code (p .0)) refl (run-past n (suc k) (next c d code p) i l)
-    where
-      by : (v : ℕ) → violation c d code (p .0) ≡ v
-          → getD (running c d code (suc k) n (next c d code p) .1 .1) i 0 ≡ getD (next c d code p .1) i 0
-          → getD (running c d code k (suc n) p .1 .1) i 0 ≡ getD (p .1) i 0
-      by zero e rest = rw (run-on c d code p k n e) (rest ∙ next-past p e i l)
-      by (suc v) e rest = rw (run-stop c d code p k n (suc v) e (omega arith))
-
   next-length : (p : State × List ℕ) → length (next c d code p .1) ≡ length (p .1)
   unfolding next
   next-length p = left-length d (p .1) (act (fetched c code (p .0)) (p .0) .0)
 
-  run-length : (n k : ℕ) (p : State × List ℕ) → length (running c d code k n p .1 .1) ≡ length (p .1)
-  unfolding running
-  run-length zero k p = refl
-  run-length (suc n) k p = by (violation c d code (p .0)) refl (run-length n (suc k) (next c d code p))
-    where
-      by : (v : ℕ) → violation c d code (p .0) ≡ v
-          → length (running c d code (suc k) n (next c d code p) .1 .1) ≡ length (next c d code p .1)
-          → length (running c d code k (suc n) p .1 .1) ≡ length (p .1)
-      by zero e rest = rw (run-on c d code p k n e) (rest ∙ next-length p)
-      by (suc v) e rest = rw (run-stop c d code p k n (suc v) e (omega arith))
+  -- A run keeps what every step keeps
+  run-past : (n : ℕ) (p : State × List ℕ) (i : ℕ) → d .words ≤ i → getD (running c d code 0 n p .1 .1) i 0 ≡ getD (p .1) i 0
+  run-past n p i l = run-keeps c d code (λ q. getD (q .1) i 0 ≡ getD (p .1) i 0) (λ q z h. next-past q z i l ∙ h) 0 n p refl
+
+  run-length : (n : ℕ) (p : State × List ℕ) → length (running c d code 0 n p .1 .1) ≡ length (p .1)
+  run-length n p = run-keeps c d code (λ q. length (q .1) ≡ length (p .1)) (λ q z h. next-length q ∙ h) 0 n p refl
 
 -- No step or run changes the data past D, nor the buffer's length
 pub past-kept : (r n : ℕ) (m : Machine) (code ws : List ℕ) (i : ℕ) → m .«data» .words ≤ i → getD (taking r n m code ws .2) i 0 ≡ getD ws i 0
 unfolding taking
-past-kept zero n m code ws i l = run-past (m .code) (m .«data») code n 0 (stateOf m, ws) i l
+past-kept zero n m code ws i l = run-past (m .code) (m .«data») code n (stateOf m, ws) i l
 past-kept (suc r) n m code ws i l = refl
 
 pub length-kept : (r n : ℕ) (m : Machine) (code ws : List ℕ) → length (taking r n m code ws .2) ≡ length ws
 unfolding taking
-length-kept zero n m code ws = run-length (m .code) (m .«data») code n 0 (stateOf m, ws)
+length-kept zero n m code ws = run-length (m .code) (m .«data») code n (stateOf m, ws)
 length-kept (suc r) n m code ws = refl
 
 -- The same step from the same state, whatever lies past the regions

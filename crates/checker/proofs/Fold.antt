@@ -24,6 +24,17 @@ module _ (c d : Region) (code : List ℕ) (p : State × List ℕ) where
   unfolding running
   run-end k = refl
 
+-- What each step keeps that breaks no test, a run keeps
+module _ (c d : Region) (code : List ℕ) (P : State × List ℕ → Type 0) (keeps : (p : State × List ℕ) → violation c d code (p .0) ≡ 0 → P p → P (next c d code p)) where
+  pub run-keeps : (k n : ℕ) (p : State × List ℕ) → P p → P (running c d code k n p .1)
+  unfolding running
+  run-keeps k zero p h = h
+  run-keeps k (suc n) p h = by (violation c d code (p .0)) refl (run-keeps (suc k) n (next c d code p))
+    where
+      by : (v : ℕ) → violation c d code (p .0) ≡ v → (P (next c d code p) → P (running c d code (suc k) n (next c d code p) .1)) → P (running c d code k (suc n) p .1)
+      by zero e rest = rw (run-on c d code p k n e) (rest (keeps p e h))
+      by (suc v) e rest = rw (run-stop c d code p k n (suc v) e (omega arith)) h
+
 -- The same at a count below a limit, in the code's terms
 module _ (c d : Region) (code : List ℕ) (p : State × List ℕ) (k n : ℕ) (l : k < n) where
   left-over : n - k ≡ suc (n - (k + 1))

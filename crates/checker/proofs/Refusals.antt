@@ -57,8 +57,8 @@ run-passes m c w z = by (eqb (stepRefusal m c w) 0) refl (sym (run-refusal m c w
 pub rooms : (m : Machine) (c w : ℕ) → stepRefusal m c w ≡ 0 → (m .code .words ≤ c) × (m .«data» .words ≤ w)
 rooms m c w z =
     let p = step-passes m c w z in
-    let lc : c ≡ 1024 = eqb-true c LONGEST (not-false (eqb c LONGEST) (either-left (not (eqb c LONGEST)) (not (eqb w LONGEST)) (p .0))) in
-    let lw : w ≡ 1024 = eqb-true w LONGEST (not-false (eqb w LONGEST) (either-right (not (eqb c LONGEST)) (not (eqb w LONGEST)) (p .0))) in
+    let lc : c ≡ LONGEST = eqb-true c LONGEST (not-false (eqb c LONGEST) (either-left (not (eqb c LONGEST)) (not (eqb w LONGEST)) (p .0))) in
+    let lw : w ≡ LONGEST = eqb-true w LONGEST (not-false (eqb w LONGEST) (either-right (not (eqb c LONGEST)) (not (eqb w LONGEST)) (p .0))) in
     let r = right-count m (p .1) in
     (omega arith, omega arith)
 

@@ -5,7 +5,7 @@ use mathlib.Core.Path.{_≡_, refl, sym, ap, _∙_}
 use mathlib.Core.Bool.{Bool, true, false, not}
 use mathlib.Core.List.{List, [], _∷_}
 use mathlib.Core.Option.{none, some}
-use borrow.Author.Tests.{not-true, not-false, eq-eqb, ne-eqb, eqb-true, eqb-false, leb-true, le-ltb}
+use borrow.Author.Tests.{not-true, not-false, eq-eqb, ne-eqb, eqb-true, eqb-false, leb-true}
 use lib.Dec.{eqb, leb}
 use lib.ListN.{getD}
 use Rattle.words.specs.declared.LoadKind.{LoadKind}
@@ -19,7 +19,7 @@ use Rattle.words.specs.declared.Instruction.{Instruction}
 use Rattle.machine.specs.Effects.{State, illegal, access, act, meaning, applied, moved, askew, modeSet}
 use Rattle.machine.specs.Record.{holds, wordAt, first}
 use Rattle.machine.proofs.Acts.{act-reads, legal-not}
-use Rattle.machine.proofs.Regions.{holds-in}
+use Rattle.machine.proofs.Regions.{holds-in, holds-out}
 use Rattle.checker.specs.Checks.{outside, admits, foreign, fetched, table, violation, found, left, next}
 use Rattle.checker.specs.Inner.{Offset}
 
@@ -37,7 +37,7 @@ pub offset-wraps : (r : Region) (a n : ℕ) → a < 2 ^ 32 → r .start < 2 ^ 32
 offset-wraps r a n la ls lw ln e = (λ p. (holds-in r a (omega arith) (omega arith), omega arith), λ p. by p (leb (r .start) a) refl)
   where
     by : 4 * r .words ≤ n → (t : Bool) → leb (r .start) a ≡ t → holds r a ≡ false
-    by p true q = let l : r .start ≤ a = leb-true (r .start) a q in rw (q, le-ltb a (r .start + 4 * r .words) (omega arith))
+    by p true q = let l : r .start ≤ a = leb-true (r .start) a q in holds-out r a (omega arith)
     by p false q = rw q
 
 -- The word that far into a region's list
@@ -140,7 +140,7 @@ passes c d code s z =
 
 -- A violation's number is one of the table's, in whatever order they stand
 abbrev Numbered : ℕ → Type 0
-Numbered n = 0 < n → (20 < n) × (n < 28)
+Numbered n = 0 < n → (21 ≤ n) × (n ≤ 27)
 
 abbrev AllNumbered : List (Bool × ℕ) → Type 0
 AllNumbered [] = Unit {0}
@@ -154,7 +154,7 @@ first-numbered (t ∷ ts) a = either (t .0) (t .1) (first ts 0) (a .0) (first-nu
     either true n r x y = x
     either false n r x y = y
 
-pub violation-number : (c d : Region) (code : List ℕ) (s : State) → 0 < violation c d code s → (20 < violation c d code s) × (violation c d code s < 28)
+pub violation-number : (c d : Region) (code : List ℕ) (s : State) → 0 < violation c d code s → (21 ≤ violation c d code s) × (violation c d code s ≤ 27)
 unfolding violation
 violation-number c d code s = first-numbered (table c d code s) (λ z. omega arith, (λ z. omega arith, (λ z. omega arith, (λ z. omega arith, (λ z. omega arith, (λ z. omega arith, (λ z. omega arith, tt)))))))
 

@@ -16,7 +16,7 @@ use Rattle.checker.specs.Checks.{fetched, violation, next, found}
 use Rattle.checker.specs.Runs.{running, told, after, taking, verdictAnswer}
 use Rattle.checker.specs.declared.Verdict.{Verdict}
 use Rattle.checker.specs.declared.Verdict.the-variants.{Refused, Accepted, Violation}
-use Rattle.checker.proofs.Fold.{run-on, run-stop}
+use Rattle.checker.proofs.Fold.{run-on, run-stop, run-keeps}
 use Rattle.checker.proofs.Tests.{passes}
 
 module _ (c d : Region) (code : List ℕ) where
@@ -114,17 +114,8 @@ module _ (c d : Region) (code : List ℕ) where
   unfolding next
   quiet-next p e q = quiet-moved (fetched c code (p .0)) (found d (p .1) (act (fetched c code (p .0)) (p .0) .0)) (p .0) (passes c d code (p .0) e .calm) q
 
-  quiet-running : (k n : ℕ) (p : State × List ℕ) → Quiet (p .0 .gpr) (p .0 .spr)
-      → Quiet (running c d code k n p .1 .0 .gpr) (running c d code k n p .1 .0 .spr)
-  unfolding running
-  quiet-running k zero p q = q
-  quiet-running k (suc n) p q = by (violation c d code (p .0)) refl (quiet-running (suc k) n (next c d code p))
-    where
-      by : (v : ℕ) → violation c d code (p .0) ≡ v
-          → (Quiet (next c d code p .0 .gpr) (next c d code p .0 .spr) → Quiet (running c d code (suc k) n (next c d code p) .1 .0 .gpr) (running c d code (suc k) n (next c d code p) .1 .0 .spr))
-          → Quiet (running c d code k (suc n) p .1 .0 .gpr) (running c d code k (suc n) p .1 .0 .spr)
-      by zero e rest = rw (run-on c d code p k n e) (rest (quiet-next p e q))
-      by (suc v) e rest = rw (run-stop c d code p k n (suc v) e (omega arith)) q
+  abbrev Still : State × List ℕ → Type 0
+  Still p = Quiet (p .0 .gpr) (p .0 .spr)
 
   quiet-after : (k : ℕ) (p : State × List ℕ) → Fine c d code k p → Quiet (p .0 .gpr) (p .0 .spr)
       → Quiet (after c d code k p .0 .gpr) (after c d code k p .0 .spr)
@@ -141,7 +132,7 @@ reads-zero m code ws n z f j l =
 
 pub handed-back : (r n : ℕ) (m : Machine) (code ws : List ℕ) → notZero m ≡ false → notZero (taking r n m code ws .1) ≡ false
 unfolding taking
-handed-back zero n m code ws e = record-quiet (taking zero n m code ws .1) (quiet-running (m .code) (m .«data») code 0 n (stateOf m, ws) (quiet-record m e))
+handed-back zero n m code ws e = record-quiet (taking zero n m code ws .1) (run-keeps (m .code) (m .«data») code (Still (m .code) (m .«data») code) (quiet-next (m .code) (m .«data») code) 0 n (stateOf m, ws) (quiet-record m e))
 handed-back (suc r) n m code ws e = e
 
 -- ---- Two results that meet a promise are equal

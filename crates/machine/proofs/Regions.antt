@@ -4,11 +4,12 @@ use mathlib.Core.Path.{_≡_, refl, sym, ap, _∙_}
 use mathlib.Core.List.{List}
 use mathlib.Core.Bool.{Bool, true, false, not, _&&_, _||_}
 use native.Mathlib.Omega.{arith}
-use borrow.Author.Tests.{le-leb, lt-ltb, leb-true, ltb-true, ltb-false, eqb-true, eqb-false, not-false}
+use borrow.Author.Tests.{le-leb, lt-ltb, leb-true, ltb-true, ltb-false, eqb-true, eqb-false, not-false, le-ltb}
 use lib.Dec.{eqb, leb, ltb}
 use lib.ListN.{getD}
 use Rattle.words.specs.Fields.{pick}
 use Rattle.words.proofs.Signed.{false-true}
+use Rattle.machine.proofs.Special.{and-false}
 use Rattle.machine.specs.declared.Machine.{Machine}
 use Rattle.machine.specs.declared.Region.{Region}
 use Rattle.machine.specs.Record.{LONGEST, MEMORY, holds, wrongCount, unalignedStart, pastMemory, later, overlap, wordAt, image}
@@ -70,6 +71,9 @@ holds-yes r a e = (
 
 pub holds-in : (r : Region) (a : ℕ) → r .start ≤ a → a < r .start + 4 * r .words → holds r a ≡ true
 holds-in r a l h = rw (le-leb (r .start) a l, lt-ltb a (r .start + 4 * r .words) h)
+
+pub holds-out : (r : Region) (a : ℕ) → r .start + 4 * r .words ≤ a → holds r a ≡ false
+holds-out r a l = rw (le-ltb a (r .start + 4 * r .words) l) (and-false (leb (r .start) a))
 
 -- The place of an address in its region's list
 pub placed : (r : Region) (a : ℕ) → holds r a ≡ true → (a - r .start) / 4 < r .words

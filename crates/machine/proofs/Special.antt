@@ -48,6 +48,10 @@ any-yes p n (suc m) l e = by (eqb n m) refl (p m) refl (any-yes p n m)
 pub any-more : (p : ℕ → Bool) (n : ℕ) → anyBelow p n ≡ false → p n ≡ false → anyBelow p (n + 1) ≡ false
 any-more p n e f = rw (add-one, f) e
 
+pub and-false : (b : Bool) → b && false ≡ false
+and-false true = refl
+and-false false = refl
+
 -- The test of the special registers, number by number
 abbrev pub loud : List ℕ → ℕ → Bool
 loud p n = idle n && not (eqb (getD p n 0) 0)
@@ -57,7 +61,3 @@ loud-yes p n l h d = rw (idle-past n l h, ne-eqb (getD p n 0) 0 d)
 
 pub loud-not : (p : List ℕ) (n : ℕ) → getD p n 0 ≡ 0 → loud p n ≡ false
 loud-not p n e = rw (eq-eqb (getD p n 0) 0 e) (and-false (idle n))
-  where
-    and-false : (b : Bool) → b && false ≡ false
-    and-false true = refl
-    and-false false = refl

@@ -26,7 +26,7 @@ stored-length Sb mem a v = put-length 8 mem a v
 stored-length Sh mem a v = put-length 16 mem a v
 stored-length Sw mem a v = put-length 32 mem a v
 
-kept-length : (e : Effect) (mem : List ℕ) → length (memoryAfter e mem) ≡ length mem
+pub kept-length : (e : Effect) (mem : List ℕ) → length (memoryAfter e mem) ≡ length mem
 unfolding memoryAfter
 kept-length (does.Put n x) mem = refl
 kept-length (does.PutSpecial n x) mem = refl
