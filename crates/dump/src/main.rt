@@ -6,12 +6,12 @@ use card::Answer;
 use card::load;
 use checker::Verdict;
 use judge::Ruling;
-use judge::line;
 use libc::STDIN_FILENO;
 use machine::Machine;
 use show::ROOM;
 use show::put;
 use show::put_number;
+use show::put_ruling;
 use show::put_word;
 use states::put_changes;
 use states::put_memory_changes;
@@ -42,10 +42,8 @@ fn dump(card: &mut [u8]) {
 
 // The verdict line of a refusal.
 fn put_refused(number: u32) {
-    let written = line(Ruling::Refused(number));
-    let len = written.len;
-    let bytes = written.bytes;
-    put(&bytes[..len]);
+    put_ruling(Ruling::Refused(number));
+    put(b"\n");
 }
 
 fn put_checker(machine: Machine, code: [u32; Machine::WORDS], before: [u32; Machine::WORDS]) {

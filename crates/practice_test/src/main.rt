@@ -5,10 +5,10 @@ mod digests;
 
 use digests::put_digests;
 use judge::judge;
-use judge::line;
 use libc::STDIN_FILENO;
 use show::ROOM;
 use show::put;
+use show::put_ruling;
 
 // A count that no bundle reaches: the loop ends with its input.
 const CARDS: u64 = 0xFFFFFFFFFFFFFFFF;
@@ -64,21 +64,10 @@ fn answer(card: &mut [u8], past: usize) -> bool {
     if !skip(past) {
         return cut();
     }
-    put_verdict(card);
+    put_ruling(judge(card));
     put_digests(card);
     put(b"\n");
     true
-}
-
-// The verdict line without its end.
-fn put_verdict(card: &[u8]) {
-    let written = line(judge(card));
-    let len = written.len;
-    let bytes = written.bytes;
-    if len > 0 {
-        let end = len - 1;
-        put(&bytes[..end]);
-    }
 }
 
 // Reads so many bytes; whether there were as many.

@@ -2,7 +2,9 @@
 // two words of a double word.
 ghost use mathlib.Core.Path.{_≡_};
 ghost use Prim.Native.Nat.{_/_, _%_, _^_};
+use judge::Ruling;
 use judge::hex;
+use judge::line;
 use libc::STDOUT_FILENO;
 
 // Room for a card: one byte more than the longest that loads. What a longer card has past it cannot change the answer:
@@ -34,6 +36,17 @@ pub fn put_word(word: u32) {
 pub fn put_byte(n: u32) {
     let digits = hex(n);
     put(&digits[6..8]);
+}
+
+// The verdict line of a ruling, without its end.
+pub fn put_ruling(ruling: Ruling) {
+    let written = line(ruling);
+    let len = written.len;
+    let bytes = written.bytes;
+    if len > 0 {
+        let end = len - 1;
+        put(&bytes[..end]);
+    }
 }
 
 // The word at the lower address of a double word.

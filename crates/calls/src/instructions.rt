@@ -1,0 +1,148 @@
+// Instruction values by the number of their mnemonic and their operands in the order of the syntax.
+use std::num::wrapping_sub_u32;
+use words::Arithmetic;
+use words::Comparison;
+use words::Instruction;
+use words::LoadKind;
+use words::Shift;
+use words::StoreKind;
+
+// 2^31 and 2^32 - 1.
+const HALF: u32 = 2147483648;
+
+const MOST: u32 = 4294967295;
+
+// Which operand of an instruction is the immediate, counted from 0; 3 where it has none.
+pub(crate) fn immediate_of(number: u32) -> u32 {
+    match number {
+        26..=28 => 0,
+        30..=31 => 1,
+        32..=38 => 2,
+        39 => 1,
+        43..=48 => 2,
+        50..=54 => 2,
+        55..=57 => 1,
+        _ => 3,
+    }
+}
+
+// The instruction of a number and its operands; registers and SA are taken as bytes.
+pub(crate) fn instruction_of(number: u32, a: u32, b: u32, c: u32) -> Instruction {
+    let first = low(a);
+    let second = low(b);
+    let third = low(c);
+    match number {
+        0..=3 => Instruction::ShiftImmediate(shift(number), first, second, third),
+        4..=7 => Instruction::ShiftRegister(
+            shift(wrapping_sub_u32(number, 4)),
+            first,
+            second,
+            third,
+        ),
+        8 => Instruction::Movs2i(first, second),
+        9 => Instruction::Movi2s(first, second),
+        10..=16 => Instruction::ArithmeticRegister(
+            arithmetic(wrapping_sub_u32(number, 10)),
+            first,
+            second,
+            third,
+        ),
+        17 => Instruction::Lhg(first, second),
+        18 => Instruction::Clr(first),
+        19..=24 => Instruction::CompareRegister(
+            comparison(wrapping_sub_u32(number, 19)),
+            first,
+            second,
+            third,
+        ),
+        25 => Instruction::Set(first),
+        26 => Instruction::J(signed(a)),
+        27 => Instruction::Jal(signed(a)),
+        28 => Instruction::Trap(signed(a)),
+        30 => Instruction::Beqz(first, signed(b)),
+        31 => Instruction::Bnez(first, signed(b)),
+        32..=38 => Instruction::ArithmeticImmediate(
+            arithmetic(wrapping_sub_u32(number, 32)),
+            first,
+            second,
+            signed(c),
+        ),
+        39 => Instruction::Lhgi(first, signed(b)),
+        40 => Instruction::Jr(first),
+        41 => Instruction::Jalr(first),
+        42 => Instruction::Clri(first),
+        43..=48 => Instruction::CompareImmediate(
+            comparison(wrapping_sub_u32(number, 43)),
+            first,
+            second,
+            signed(c),
+        ),
+        49 => Instruction::Seti(first),
+        50..=54 => Instruction::Load(load(wrapping_sub_u32(number, 50)), first, second, signed(c)),
+        55..=57 => Instruction::Store(store(wrapping_sub_u32(number, 55)), first, signed(b), third),
+        _ => Instruction::Rfe,
+    }
+}
+
+fn low(operand: u32) -> u8 {
+    (operand % 256) as u8
+}
+
+// The whole number that a word is in two's complement.
+fn signed(word: u32) -> i32 {
+    if word < HALF {
+        word as i32
+    } else {
+        -1 - (MOST - word) as i32
+    }
+}
+
+fn shift(member: u32) -> Shift {
+    match member {
+        0 => Shift::Sll,
+        1 => Shift::Sla,
+        2 => Shift::Srl,
+        _ => Shift::Sra,
+    }
+}
+
+fn arithmetic(member: u32) -> Arithmetic {
+    match member {
+        0 => Arithmetic::Addo,
+        1 => Arithmetic::Add,
+        2 => Arithmetic::Subo,
+        3 => Arithmetic::Sub,
+        4 => Arithmetic::And,
+        5 => Arithmetic::Or,
+        _ => Arithmetic::Xor,
+    }
+}
+
+fn comparison(member: u32) -> Comparison {
+    match member {
+        0 => Comparison::Sgr,
+        1 => Comparison::Seq,
+        2 => Comparison::Sge,
+        3 => Comparison::Sls,
+        4 => Comparison::Sne,
+        _ => Comparison::Sle,
+    }
+}
+
+fn load(member: u32) -> LoadKind {
+    match member {
+        0 => LoadKind::Lb,
+        1 => LoadKind::Lh,
+        2 => LoadKind::Lw,
+        3 => LoadKind::Lbu,
+        _ => LoadKind::Lhu,
+    }
+}
+
+fn store(member: u32) -> StoreKind {
+    match member {
+        0 => StoreKind::Sb,
+        1 => StoreKind::Sh,
+        _ => StoreKind::Sw,
+    }
+}

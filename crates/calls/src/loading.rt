@@ -1,0 +1,78 @@
+// The calls on the bytes of a card: the loader and the judge.
+use crate::changes::put_named;
+use crate::memory::keep_memory;
+use crate::memory::least;
+use crate::memory::take_bytes;
+use crate::memory::take_memory;
+use crate::places::BYTES;
+use crate::places::CARD_LENGTH;
+use crate::places::CODE;
+use crate::places::CODE_LENGTH;
+use crate::places::DATA;
+use crate::places::DATA_LENGTH;
+use crate::places::DOUBLE_WORDS;
+use crate::places::MEMORY_LENGTH;
+use crate::places::WORDS;
+use crate::places::at;
+use crate::records::keep;
+use crate::records::keep_record;
+use crate::records::take;
+use card::Answer;
+use card::load;
+use judge::judge;
+use show::put;
+use show::put_ruling;
+
+pub(crate) fn put_load(given: &[u32], left: &mut [u32]) {
+    let mut card = [0u8; BYTES];
+    let mut code = [0u32; WORDS];
+    let mut words = [0u32; WORDS];
+    let mut memory = [0u64; DOUBLE_WORDS];
+    take_bytes(given, &mut card);
+    take(given, CODE, &mut code);
+    take(given, DATA, &mut words);
+    take_memory(given, &mut memory);
+    lend(given, &card, &mut code, &mut words, &mut memory, left);
+    keep(&code, CODE, left);
+    keep(&words, DATA, left);
+    keep_memory(&memory, left);
+}
+
+// Lends as much of the card and of the buffers as the call says.
+fn lend(
+    given: &[u32],
+    card: &[u8],
+    code: &mut [u32],
+    words: &mut [u32],
+    memory: &mut [u64],
+    left: &mut [u32],
+) {
+    let n = least(at(given, CARD_LENGTH), card.len());
+    let c = least(at(given, CODE_LENGTH), code.len());
+    let d = least(at(given, DATA_LENGTH), words.len());
+    let m = least(at(given, MEMORY_LENGTH), memory.len());
+    let loaded = load(
+        &card[0..n],
+        &mut code[0..c],
+        &mut words[0..d],
+        &mut memory[0..m],
+    );
+    let answer = loaded.answer;
+    let machine = loaded.machine;
+    match answer {
+        Answer::Refused(number) => put_named(b"refused ", number),
+        Answer::Loaded => put(b"loaded"),
+    }
+    keep_record(machine, left);
+}
+
+pub(crate) fn put_judge(given: &[u32]) {
+    let mut card = [0u8; BYTES];
+    take_bytes(given, &mut card);
+    put_judged(given, &card);
+}
+
+fn put_judged(given: &[u32], card: &[u8]) {
+    let n = least(at(given, CARD_LENGTH), card.len());
+    put_ruling(judge(&card[0..n]));
+}
