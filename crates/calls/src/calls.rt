@@ -1,4 +1,4 @@
-// The calls: each takes its inputs from the places that are given, writes its answer and keeps what it left.
+// The calls: each takes its inputs from the places, writes its answer, and keeps in the places what it left.
 use crate::changes::put_hex;
 use crate::checking::put_checker;
 use crate::instructions::instruction_of;
@@ -31,22 +31,22 @@ pub(crate) const VAMP_RUN: u32 = 5;
 
 pub(crate) const LOAD: u32 = 6;
 
-pub(crate) fn perform(given: &[u32], left: &mut [u32]) {
-    let call = at(given, CALL);
+pub(crate) fn perform(places: &mut [u32]) {
+    let call = at(places, CALL);
     match call {
-        READ => put_read(given),
-        MAKE => put_make(given),
-        CHECKER_STEP => put_checker(true, given, left),
-        CHECKER_RUN => put_checker(false, given, left),
-        VAMP_STEP => put_vamp(true, given, left),
-        VAMP_RUN => put_vamp(false, given, left),
-        LOAD => put_load(given, left),
-        _ => put_judge(given),
+        READ => put_read(places),
+        MAKE => put_make(places),
+        CHECKER_STEP => put_checker(true, places),
+        CHECKER_RUN => put_checker(false, places),
+        VAMP_STEP => put_vamp(true, places),
+        VAMP_RUN => put_vamp(false, places),
+        LOAD => put_load(places),
+        _ => put_judge(places),
     }
 }
 
-fn put_read(given: &[u32]) {
-    let reading = read(at(given, OPERANDS));
+fn put_read(places: &[u32]) {
+    let reading = read(at(places, OPERANDS));
     match reading {
         Reading::Legal(instruction) => {
             put(b"legal ");
@@ -56,12 +56,12 @@ fn put_read(given: &[u32]) {
     }
 }
 
-fn put_make(given: &[u32]) {
+fn put_make(places: &[u32]) {
     let instruction = instruction_of(
-        at(given, MNEMONIC),
-        at(given, OPERANDS),
-        at(given, OPERANDS + 1),
-        at(given, OPERANDS + 2),
+        at(places, MNEMONIC),
+        at(places, OPERANDS),
+        at(places, OPERANDS + 1),
+        at(places, OPERANDS + 2),
     );
     let made = make(instruction);
     match made {

@@ -16,30 +16,30 @@ use checker::Outcome;
 use checker::Verdict;
 use checker::run;
 use checker::step;
+use machine::Machine;
 use show::put;
 
-pub(crate) fn put_checker(single: bool, given: &[u32], left: &mut [u32]) {
+pub(crate) fn put_checker(single: bool, places: &mut [u32]) {
     let mut code = [0u32; WORDS];
     let mut words = [0u32; WORDS];
-    take(given, CODE, &mut code);
-    take(given, DATA, &mut words);
-    lend(single, given, &code, &mut words, left);
-    keep(&words, DATA, left);
+    take(places, CODE, &mut code);
+    take(places, DATA, &mut words);
+    lend(single, &code, &mut words, places);
+    keep(&words, DATA, places);
 }
 
 // Lends as much of the buffers as the call says.
-fn lend(single: bool, given: &[u32], code: &[u32], words: &mut [u32], left: &mut [u32]) {
-    let c = least(at(given, CODE_LENGTH), code.len());
-    let d = least(at(given, DATA_LENGTH), words.len());
-    let outcome = outcome_of(single, given, &code[0..c], &mut words[0..d]);
+fn lend(single: bool, code: &[u32], words: &mut [u32], places: &mut [u32]) {
+    let c = least(at(places, CODE_LENGTH), code.len());
+    let d = least(at(places, DATA_LENGTH), words.len());
+    let outcome = outcome_of(single, record_of(places), &code[0..c], &mut words[0..d]);
     let verdict = outcome.verdict;
     let after = outcome.machine;
     put_verdict(verdict);
-    keep_record(after, left);
+    keep_record(after, places);
 }
 
-fn outcome_of(single: bool, given: &[u32], code: &[u32], words: &mut [u32]) -> Outcome {
-    let machine = record_of(given);
+fn outcome_of(single: bool, machine: Machine, code: &[u32], words: &mut [u32]) -> Outcome {
     if single {
         step(machine, code, words)
     } else {

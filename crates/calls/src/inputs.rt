@@ -1,7 +1,5 @@
 // A call's text, put into places.
 use crate::calls::MAKE;
-use crate::calls::READ;
-use crate::instructions::immediate_of;
 use crate::names::CALLS;
 use crate::names::MNEMONICS;
 use crate::names::find;
@@ -35,8 +33,6 @@ const KINDS: usize = 8;
 const INSTRUCTIONS: usize = 58;
 
 const MOST_OPERANDS: u32 = 3;
-
-const BYTE: u32 = 256;
 
 // Whether the text is a call that can be made.
 pub(crate) fn understood(call: &[u8], given: &mut [u32]) -> bool {
@@ -137,7 +133,7 @@ fn take_setting(place: &[u8], text: &[u8], given: &mut [u32]) -> bool {
     if index.good { value.good } else { false }
 }
 
-// Whether nothing is missing, and the lengths and operands are such as there can be.
+// Whether there is a call, with a mnemonic for `make`, and the lengths are such as there can be.
 fn complete(given: &[u32]) -> bool {
     if at(given, CALL) as usize == KINDS {
         return false;
@@ -154,43 +150,8 @@ fn complete(given: &[u32]) -> bool {
     if at(given, CARD_LENGTH) as usize > BYTES {
         return false;
     }
-    operands_fit(given)
-}
-
-// Operands belong to `read` and `make`, a mnemonic to `make`, which cannot do without; all but the immediate are bytes.
-fn operands_fit(given: &[u32]) -> bool {
-    let call = at(given, CALL);
-    let mnemonic = at(given, MNEMONIC);
-    if call == MAKE {
-        return instruction_fits(mnemonic, given);
+    if at(given, CALL) == MAKE {
+        return at(given, MNEMONIC) as usize != INSTRUCTIONS;
     }
-    if mnemonic as usize != INSTRUCTIONS {
-        return false;
-    }
-    if call == READ {
-        at(given, COUNT) <= 1
-    } else {
-        at(given, COUNT) == 0
-    }
-}
-
-fn instruction_fits(mnemonic: u32, given: &[u32]) -> bool {
-    if mnemonic as usize == INSTRUCTIONS {
-        return false;
-    }
-    let immediate = immediate_of(mnemonic);
-    if !operand_fits(0, immediate, given) {
-        return false;
-    }
-    if !operand_fits(1, immediate, given) {
-        return false;
-    }
-    operand_fits(2, immediate, given)
-}
-
-fn operand_fits(n: u32, immediate: u32, given: &[u32]) -> bool {
-    if n == immediate {
-        return true;
-    }
-    at(given, OPERANDS + n as usize) < BYTE
+    true
 }

@@ -12,21 +12,7 @@ const HALF: u32 = 2147483648;
 
 const MOST: u32 = 4294967295;
 
-// Which operand of an instruction is the immediate, counted from 0; 3 where it has none.
-pub(crate) fn immediate_of(number: u32) -> u32 {
-    match number {
-        26..=28 => 0,
-        30..=31 => 1,
-        32..=38 => 2,
-        39 => 1,
-        43..=48 => 2,
-        50..=54 => 2,
-        55..=57 => 1,
-        _ => 3,
-    }
-}
-
-// The instruction of a number and its operands; registers and SA are taken as bytes.
+// The instruction of a number and its operands; registers and SA are bytes, and take the low eight bits.
 pub(crate) fn instruction_of(number: u32, a: u32, b: u32, c: u32) -> Instruction {
     let first = low(a);
     let second = low(b);

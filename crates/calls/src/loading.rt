@@ -23,34 +23,27 @@ use judge::judge;
 use show::put;
 use show::put_ruling;
 
-pub(crate) fn put_load(given: &[u32], left: &mut [u32]) {
+pub(crate) fn put_load(places: &mut [u32]) {
     let mut card = [0u8; BYTES];
     let mut code = [0u32; WORDS];
     let mut words = [0u32; WORDS];
     let mut memory = [0u64; DOUBLE_WORDS];
-    take_bytes(given, &mut card);
-    take(given, CODE, &mut code);
-    take(given, DATA, &mut words);
-    take_memory(given, &mut memory);
-    lend(given, &card, &mut code, &mut words, &mut memory, left);
-    keep(&code, CODE, left);
-    keep(&words, DATA, left);
-    keep_memory(&memory, left);
+    take_bytes(places, &mut card);
+    take(places, CODE, &mut code);
+    take(places, DATA, &mut words);
+    take_memory(places, &mut memory);
+    lend(&card, &mut code, &mut words, &mut memory, places);
+    keep(&code, CODE, places);
+    keep(&words, DATA, places);
+    keep_memory(&memory, places);
 }
 
 // Lends as much of the card and of the buffers as the call says.
-fn lend(
-    given: &[u32],
-    card: &[u8],
-    code: &mut [u32],
-    words: &mut [u32],
-    memory: &mut [u64],
-    left: &mut [u32],
-) {
-    let n = least(at(given, CARD_LENGTH), card.len());
-    let c = least(at(given, CODE_LENGTH), code.len());
-    let d = least(at(given, DATA_LENGTH), words.len());
-    let m = least(at(given, MEMORY_LENGTH), memory.len());
+fn lend(card: &[u8], code: &mut [u32], words: &mut [u32], memory: &mut [u64], places: &mut [u32]) {
+    let n = least(at(places, CARD_LENGTH), card.len());
+    let c = least(at(places, CODE_LENGTH), code.len());
+    let d = least(at(places, DATA_LENGTH), words.len());
+    let m = least(at(places, MEMORY_LENGTH), memory.len());
     let loaded = load(
         &card[0..n],
         &mut code[0..c],
@@ -59,20 +52,20 @@ fn lend(
     );
     let answer = loaded.answer;
     let machine = loaded.machine;
+    put_loaded(answer);
+    keep_record(machine, places);
+}
+
+fn put_loaded(answer: Answer) {
     match answer {
         Answer::Refused(number) => put_named(b"refused ", number),
         Answer::Loaded => put(b"loaded"),
     }
-    keep_record(machine, left);
 }
 
-pub(crate) fn put_judge(given: &[u32]) {
+pub(crate) fn put_judge(places: &[u32]) {
     let mut card = [0u8; BYTES];
-    take_bytes(given, &mut card);
-    put_judged(given, &card);
-}
-
-fn put_judged(given: &[u32], card: &[u8]) {
-    let n = least(at(given, CARD_LENGTH), card.len());
+    take_bytes(places, &mut card);
+    let n = least(at(places, CARD_LENGTH), BYTES);
     put_ruling(judge(&card[0..n]));
 }

@@ -22,6 +22,8 @@ use inputs::understood;
 use lines::Line;
 use lines::next_line;
 use places::PLACES;
+use places::fill;
+use records::keep;
 use show::put;
 use text::first;
 
@@ -40,37 +42,39 @@ const COLON: u8 = 58;
 fn main() {
     let mut block = [0u8; BLOCK];
     let mut line = [0u8; LINE];
-    all(&mut block, &mut line);
+    let mut given = [0u32; PLACES];
+    let mut left = [0u32; PLACES];
+    all(&mut block, &mut line, &mut given, &mut left);
 }
 
-fn all(block: &mut [u8], line: &mut [u8]) {
+fn all(block: &mut [u8], line: &mut [u8], given: &mut [u32], left: &mut [u32]) {
     let mut got = Line {
         at: 0,
         end: 0,
         length: 0,
         more: true,
     };
-    let mut left = LINES;
-    while left > 0 {
+    let mut lines = LINES;
+    while lines > 0 {
         got = next_line(block, got.at, got.end, line);
         if !got.more {
             return;
         }
-        answer_first(line, got.length);
-        left -= 1;
+        answer_first(line, got.length, given, left);
+        lines -= 1;
     }
 }
 
 // Answers the line that stands in the first bytes of its room.
-fn answer_first(room: &[u8], length: usize) {
+fn answer_first(room: &[u8], length: usize, given: &mut [u32], left: &mut [u32]) {
     if length <= room.len() {
-        answer(&room[0..length]);
+        answer(&room[0..length], given, left);
         put(b"\n");
     }
 }
 
 // Empty lines and comments are written back; a call is answered behind its name.
-fn answer(line: &[u8]) {
+fn answer(line: &[u8], given: &mut [u32], left: &mut [u32]) {
     if line.len() == 0 {
         return;
     }
@@ -83,18 +87,18 @@ fn answer(line: &[u8]) {
     put(b": ");
     if colon < line.len() {
         let from = colon + 1;
-        answer_call(&line[from..]);
+        answer_call(&line[from..], given, left);
     } else {
         put(b"not a call");
     }
 }
 
-fn answer_call(call: &[u8]) {
-    let mut given = [0u32; PLACES];
-    if understood(call, &mut given) {
-        let mut left = given;
-        perform(&given, &mut left);
-        put_changes(&given, &left);
+fn answer_call(call: &[u8], given: &mut [u32], left: &mut [u32]) {
+    fill(given, 0, PLACES, 0);
+    if understood(call, given) {
+        keep(given, 0, left);
+        perform(left);
+        put_changes(given, left);
     } else {
         put(b"not a call");
     }

@@ -20,11 +20,11 @@ pub(crate) fn least(length: u32, whole: usize) -> usize
 }
 
 // Each double word of two words, the lower first.
-pub(crate) fn take_memory(given: &[u32], memory: &mut [u64]) {
+pub(crate) fn take_memory(places: &[u32], memory: &mut [u64]) {
     let mut i = 0;
     let mut place = MEMORY;
     while i < memory.len() {
-        memory[i] = double(at(given, place), at(given, wrapping_add_usize(place, 1)));
+        memory[i] = double(at(places, place), at(places, wrapping_add_usize(place, 1)));
         place = wrapping_add_usize(place, 2);
         i += 1;
     }
@@ -34,23 +34,23 @@ fn double(low: u32, high: u32) -> u64 {
     low as u64 + UPPER * high as u64
 }
 
-pub(crate) fn keep_memory(memory: &[u64], left: &mut [u32]) {
+pub(crate) fn keep_memory(memory: &[u64], places: &mut [u32]) {
     let mut i = 0;
     let mut place = MEMORY;
     while i < memory.len() {
         let both = memory[i];
-        set(left, place, lower(both));
-        set(left, wrapping_add_usize(place, 1), upper(both));
+        set(places, place, lower(both));
+        set(places, wrapping_add_usize(place, 1), upper(both));
         place = wrapping_add_usize(place, 2);
         i += 1;
     }
 }
 
 // Four bytes of each word, the lowest first.
-pub(crate) fn take_bytes(given: &[u32], card: &mut [u8]) {
+pub(crate) fn take_bytes(places: &[u32], card: &mut [u8]) {
     let mut i = 0;
     while i < card.len() {
-        let word = at(given, wrapping_add_usize(CARD, i / 4));
+        let word = at(places, wrapping_add_usize(CARD, i / 4));
         card[i] = byte_of(word, i % 4);
         i += 1;
     }

@@ -15,63 +15,67 @@ use machine::Region;
 use show::REGISTERS;
 use std::num::wrapping_add_usize;
 
-pub(crate) fn record_of(given: &[u32]) -> Machine {
+pub(crate) fn record_of(places: &[u32]) -> Machine {
     let mut gpr = [0u32; REGISTERS];
     let mut spr = [0u32; REGISTERS];
-    take(given, R, &mut gpr);
-    take(given, SPR, &mut spr);
+    take(places, R, &mut gpr);
+    take(places, SPR, &mut spr);
     let code = Region {
-        start: at(given, CODE_START),
-        words: at(given, CODE_WORDS),
+        start: at(places, CODE_START),
+        words: at(places, CODE_WORDS),
     };
     let words = Region {
-        start: at(given, DATA_START),
-        words: at(given, DATA_WORDS),
+        start: at(places, DATA_START),
+        words: at(places, DATA_WORDS),
     };
     Machine {
         code,
         data: words,
-        limit: at(given, LIMIT),
-        dpc: at(given, DPC),
-        pc: at(given, PC),
+        limit: at(places, LIMIT),
+        dpc: at(places, DPC),
+        pc: at(places, PC),
         gpr,
         spr,
     }
 }
 
-pub(crate) fn keep_record(machine: Machine, left: &mut [u32]) {
-    keep_numbers(machine, left);
+pub(crate) fn keep_record(machine: Machine, places: &mut [u32]) {
+    let numbers = numbers_of(machine);
     let gpr = machine.gpr;
     let spr = machine.spr;
-    keep(&gpr, R, left);
-    keep(&spr, SPR, left);
+    keep(&numbers, CODE_START, places);
+    keep(&gpr, R, places);
+    keep(&spr, SPR, places);
 }
 
-fn keep_numbers(machine: Machine, left: &mut [u32]) {
+// In the order of their places.
+fn numbers_of(machine: Machine) -> [u32; 7] {
     let code = machine.code;
     let words = machine.data;
-    set(left, CODE_START, code.start);
-    set(left, CODE_WORDS, code.words);
-    set(left, DATA_START, words.start);
-    set(left, DATA_WORDS, words.words);
-    set(left, LIMIT, machine.limit);
-    set(left, DPC, machine.dpc);
-    set(left, PC, machine.pc);
+    [
+        code.start,
+        code.words,
+        words.start,
+        words.words,
+        machine.limit,
+        machine.dpc,
+        machine.pc,
+    ]
 }
 
 // The words of an array from a place on.
-pub(crate) fn take(given: &[u32], place: usize, words: &mut [u32]) {
+pub(crate) fn take(places: &[u32], place: usize, words: &mut [u32]) {
     let mut i = 0;
     while i < words.len() {
-        words[i] = at(given, wrapping_add_usize(place, i));
+        words[i] = at(places, wrapping_add_usize(place, i));
         i += 1;
     }
 }
 
-pub(crate) fn keep(words: &[u32], place: usize, left: &mut [u32]) {
+pub(crate) fn keep(words: &[u32], place: usize, places: &mut [u32]) {
     let mut i = 0;
     while i < words.len() {
-        set(left, wrapping_add_usize(place, i), words[i]);
+        set(places, wrapping_add_usize(place, i), words[i]);
         i += 1;
     }
 }

@@ -15,39 +15,39 @@ use vamp::Answer;
 use vamp::run;
 use vamp::step;
 
-pub(crate) fn put_vamp(single: bool, given: &[u32], left: &mut [u32]) {
+pub(crate) fn put_vamp(single: bool, places: &mut [u32]) {
     let mut memory = [0u64; DOUBLE_WORDS];
-    take_memory(given, &mut memory);
-    lend(single, given, &mut memory, left);
-    keep_memory(&memory, left);
+    take_memory(places, &mut memory);
+    lend(single, &mut memory, places);
+    keep_memory(&memory, places);
 }
 
 // Lends as much of the memory as the call says.
-fn lend(single: bool, given: &[u32], memory: &mut [u64], left: &mut [u32]) {
-    let m = least(at(given, MEMORY_LENGTH), memory.len());
+fn lend(single: bool, memory: &mut [u64], places: &mut [u32]) {
+    let m = least(at(places, MEMORY_LENGTH), memory.len());
     if single {
-        put_step(given, &mut memory[0..m], left);
+        put_step(&mut memory[0..m], places);
     } else {
-        put_run(given, &mut memory[0..m], left);
+        put_run(&mut memory[0..m], places);
     }
 }
 
-fn put_step(given: &[u32], memory: &mut [u64], left: &mut [u32]) {
-    let stepped = step(record_of(given), memory);
+fn put_step(memory: &mut [u64], places: &mut [u32]) {
+    let stepped = step(record_of(places), memory);
     let answer = stepped.answer;
     let after = stepped.machine;
     put_answer(answer);
-    keep_record(after, left);
+    keep_record(after, places);
 }
 
-fn put_run(given: &[u32], memory: &mut [u64], left: &mut [u32]) {
-    let ran = run(record_of(given), memory, at(given, STEPS));
+fn put_run(memory: &mut [u64], places: &mut [u32]) {
+    let ran = run(record_of(places), memory, at(places, STEPS));
     let answer = ran.answer;
     let after = ran.machine;
     put_answer(answer);
     put_named(b" steps ", ran.steps);
     put_named(b" masked ", ran.masked);
-    keep_record(after, left);
+    keep_record(after, places);
 }
 
 fn put_answer(answer: Answer) {

@@ -3,6 +3,7 @@ use crate::names::MNEMONICS;
 use crate::names::put_name;
 use show::put;
 use show::put_number;
+use std::num::wrapping_add_u8;
 use words::Arithmetic;
 use words::Comparison;
 use words::Instruction;
@@ -10,146 +11,143 @@ use words::LoadKind;
 use words::Shift;
 use words::StoreKind;
 
+// The number of a mnemonic, how many operands it has, and these.
+pub struct Told {
+    pub number: u8,
+    pub count: u8,
+    pub a: i32,
+    pub b: i32,
+    pub c: i32,
+}
+
 pub(crate) fn put_instruction(instruction: Instruction) {
-    put_name(&MNEMONICS, number_of(instruction));
-    put_operands(instruction);
+    let told = told_of(instruction);
+    put_name(&MNEMONICS, told.number as u32);
+    if told.count > 0 {
+        put_whole(told.a);
+    }
+    if told.count > 1 {
+        put_whole(told.b);
+    }
+    if told.count > 2 {
+        put_whole(told.c);
+    }
 }
 
-// The number of its mnemonic.
-fn number_of(instruction: Instruction) -> u32 {
+fn told_of(instruction: Instruction) -> Told {
     match instruction {
-        Instruction::ShiftImmediate(s, _, _, _) => shift(s) as u32,
-        Instruction::ShiftRegister(s, _, _, _) => 4 + shift(s) as u32,
-        Instruction::Movs2i(_, _) => 8,
-        Instruction::Movi2s(_, _) => 9,
-        Instruction::ArithmeticRegister(a, _, _, _) => 10 + arithmetic(a) as u32,
-        Instruction::Lhg(_, _) => 17,
-        Instruction::Clr(_) => 18,
-        Instruction::CompareRegister(k, _, _, _) => 19 + comparison(k) as u32,
-        Instruction::Set(_) => 25,
-        Instruction::J(_) => 26,
-        Instruction::Jal(_) => 27,
-        Instruction::Trap(_) => 28,
-        Instruction::Rfe => 29,
-        Instruction::Beqz(_, _) => 30,
-        Instruction::Bnez(_, _) => 31,
-        Instruction::ArithmeticImmediate(a, _, _, _) => 32 + arithmetic(a) as u32,
-        Instruction::Lhgi(_, _) => 39,
-        Instruction::Jr(_) => 40,
-        Instruction::Jalr(_) => 41,
-        Instruction::Clri(_) => 42,
-        Instruction::CompareImmediate(k, _, _, _) => 43 + comparison(k) as u32,
-        Instruction::Seti(_) => 49,
-        Instruction::Load(k, _, _, _) => 50 + load(k) as u32,
-        Instruction::Store(k, _, _, _) => 55 + store(k) as u32,
+        Instruction::ShiftImmediate(s, rd, rs1, sa) => three(shift(s, 0), rd, rs1, sa),
+        Instruction::ShiftRegister(s, rd, rs1, rs2) => three(shift(s, 4), rd, rs1, rs2),
+        Instruction::Movs2i(rd, sa) => two(8, rd, sa),
+        Instruction::Movi2s(sa, rs1) => two(9, sa, rs1),
+        Instruction::ArithmeticRegister(a, rd, rs1, rs2) => three(arithmetic(a, 10), rd, rs1, rs2),
+        Instruction::Lhg(rd, rs1) => two(17, rd, rs1),
+        Instruction::Clr(rd) => one(18, rd),
+        Instruction::CompareRegister(k, rd, rs1, rs2) => three(comparison(k, 19), rd, rs1, rs2),
+        Instruction::Set(rd) => one(25, rd),
+        Instruction::J(imm) => with(26, 1, imm, 0, 0),
+        Instruction::Jal(imm) => with(27, 1, imm, 0, 0),
+        Instruction::Trap(imm) => with(28, 1, imm, 0, 0),
+        Instruction::Rfe => with(29, 0, 0, 0, 0),
+        Instruction::Beqz(rs1, imm) => with(30, 2, rs1 as i32, imm, 0),
+        Instruction::Bnez(rs1, imm) => with(31, 2, rs1 as i32, imm, 0),
+        Instruction::ArithmeticImmediate(a, rd, rs1, imm) => immediate(
+            arithmetic(a, 32),
+            rd,
+            rs1,
+            imm,
+        ),
+        Instruction::Lhgi(rd, imm) => with(39, 2, rd as i32, imm, 0),
+        Instruction::Jr(rs1) => one(40, rs1),
+        Instruction::Jalr(rs1) => one(41, rs1),
+        Instruction::Clri(rd) => one(42, rd),
+        Instruction::CompareImmediate(k, rd, rs1, imm) => immediate(
+            comparison(k, 43),
+            rd,
+            rs1,
+            imm,
+        ),
+        Instruction::Seti(rd) => one(49, rd),
+        Instruction::Load(k, rd, rs1, imm) => immediate(load(k), rd, rs1, imm),
+        Instruction::Store(k, rs1, imm, rd) => with(store(k), 3, rs1 as i32, imm, rd as i32),
     }
 }
 
-fn shift(member: Shift) -> u8 {
-    match member {
-        Shift::Sll => 0,
-        Shift::Sla => 1,
-        Shift::Srl => 2,
-        Shift::Sra => 3,
+fn with(number: u8, count: u8, a: i32, b: i32, c: i32) -> Told {
+    Told {
+        number,
+        count,
+        a,
+        b,
+        c,
     }
 }
 
-fn arithmetic(member: Arithmetic) -> u8 {
+fn one(number: u8, a: u8) -> Told {
+    with(number, 1, a as i32, 0, 0)
+}
+
+fn two(number: u8, a: u8, b: u8) -> Told {
+    with(number, 2, a as i32, b as i32, 0)
+}
+
+fn three(number: u8, a: u8, b: u8, c: u8) -> Told {
+    with(number, 3, a as i32, b as i32, c as i32)
+}
+
+fn immediate(number: u8, a: u8, b: u8, imm: i32) -> Told {
+    with(number, 3, a as i32, b as i32, imm)
+}
+
+// The members of a group have the numbers from the first one's on.
+fn shift(member: Shift, first: u8) -> u8 {
     match member {
-        Arithmetic::Addo => 0,
-        Arithmetic::Add => 1,
-        Arithmetic::Subo => 2,
-        Arithmetic::Sub => 3,
-        Arithmetic::And => 4,
-        Arithmetic::Or => 5,
-        Arithmetic::Xor => 6,
+        Shift::Sll => first,
+        Shift::Sla => wrapping_add_u8(first, 1),
+        Shift::Srl => wrapping_add_u8(first, 2),
+        Shift::Sra => wrapping_add_u8(first, 3),
     }
 }
 
-fn comparison(member: Comparison) -> u8 {
+fn arithmetic(member: Arithmetic, first: u8) -> u8 {
     match member {
-        Comparison::Sgr => 0,
-        Comparison::Seq => 1,
-        Comparison::Sge => 2,
-        Comparison::Sls => 3,
-        Comparison::Sne => 4,
-        Comparison::Sle => 5,
+        Arithmetic::Addo => first,
+        Arithmetic::Add => wrapping_add_u8(first, 1),
+        Arithmetic::Subo => wrapping_add_u8(first, 2),
+        Arithmetic::Sub => wrapping_add_u8(first, 3),
+        Arithmetic::And => wrapping_add_u8(first, 4),
+        Arithmetic::Or => wrapping_add_u8(first, 5),
+        Arithmetic::Xor => wrapping_add_u8(first, 6),
+    }
+}
+
+fn comparison(member: Comparison, first: u8) -> u8 {
+    match member {
+        Comparison::Sgr => first,
+        Comparison::Seq => wrapping_add_u8(first, 1),
+        Comparison::Sge => wrapping_add_u8(first, 2),
+        Comparison::Sls => wrapping_add_u8(first, 3),
+        Comparison::Sne => wrapping_add_u8(first, 4),
+        Comparison::Sle => wrapping_add_u8(first, 5),
     }
 }
 
 fn load(member: LoadKind) -> u8 {
     match member {
-        LoadKind::Lb => 0,
-        LoadKind::Lh => 1,
-        LoadKind::Lw => 2,
-        LoadKind::Lbu => 3,
-        LoadKind::Lhu => 4,
+        LoadKind::Lb => 50,
+        LoadKind::Lh => 51,
+        LoadKind::Lw => 52,
+        LoadKind::Lbu => 53,
+        LoadKind::Lhu => 54,
     }
 }
 
 fn store(member: StoreKind) -> u8 {
     match member {
-        StoreKind::Sb => 0,
-        StoreKind::Sh => 1,
-        StoreKind::Sw => 2,
+        StoreKind::Sb => 55,
+        StoreKind::Sh => 56,
+        StoreKind::Sw => 57,
     }
-}
-
-fn put_operands(instruction: Instruction) {
-    match instruction {
-        Instruction::ShiftImmediate(_, rd, rs1, sa) => put_three(rd, rs1, sa),
-        Instruction::ShiftRegister(_, rd, rs1, rs2) => put_three(rd, rs1, rs2),
-        Instruction::Movs2i(rd, sa) => put_two(rd, sa),
-        Instruction::Movi2s(sa, rs1) => put_two(sa, rs1),
-        Instruction::ArithmeticRegister(_, rd, rs1, rs2) => put_three(rd, rs1, rs2),
-        Instruction::Lhg(rd, rs1) => put_two(rd, rs1),
-        Instruction::Clr(rd) => put_one(rd),
-        Instruction::CompareRegister(_, rd, rs1, rs2) => put_three(rd, rs1, rs2),
-        Instruction::Set(rd) => put_one(rd),
-        Instruction::J(imm) => put_whole(imm),
-        Instruction::Jal(imm) => put_whole(imm),
-        Instruction::Trap(imm) => put_whole(imm),
-        Instruction::Rfe => {}
-        Instruction::Beqz(rs1, imm) => put_one_and(rs1, imm),
-        Instruction::Bnez(rs1, imm) => put_one_and(rs1, imm),
-        Instruction::ArithmeticImmediate(_, rd, rs1, imm) => put_two_and(rd, rs1, imm),
-        Instruction::Lhgi(rd, imm) => put_one_and(rd, imm),
-        Instruction::Jr(rs1) => put_one(rs1),
-        Instruction::Jalr(rs1) => put_one(rs1),
-        Instruction::Clri(rd) => put_one(rd),
-        Instruction::CompareImmediate(_, rd, rs1, imm) => put_two_and(rd, rs1, imm),
-        Instruction::Seti(rd) => put_one(rd),
-        Instruction::Load(_, rd, rs1, imm) => put_two_and(rd, rs1, imm),
-        Instruction::Store(_, rs1, imm, rd) => {
-            put_one_and(rs1, imm);
-            put_one(rd);
-        }
-    }
-}
-
-fn put_one(a: u8) {
-    put(b" ");
-    put_number(a as u64);
-}
-
-fn put_two(a: u8, b: u8) {
-    put_one(a);
-    put_one(b);
-}
-
-fn put_three(a: u8, b: u8, c: u8) {
-    put_two(a, b);
-    put_one(c);
-}
-
-fn put_one_and(a: u8, imm: i32) {
-    put_one(a);
-    put_whole(imm);
-}
-
-fn put_two_and(a: u8, b: u8, imm: i32) {
-    put_two(a, b);
-    put_whole(imm);
 }
 
 // With a sign where it is below 0.

@@ -6,10 +6,10 @@ use Rattle.calls.proofs.memory.keep_memory.Statement.{statement}
 use Rattle.calls.proofs.memory.keep_memory.Tie as tie
 
 abbrev Inv-loop : tie.InvT-loop
-Inv-loop memory left₀ i₀ place₀ left i place = length left ≡ length left₀
+Inv-loop memory places₀ i₀ place₀ places i place = length places ≡ length places₀
 
 abbrev μ-loop : tie.MeasureT-loop
-μ-loop memory left₀ i₀ place₀ left i place = length memory - i
+μ-loop memory places₀ i₀ place₀ places i place = length memory - i
 
 pub keep-memory-spec : {M : Type 1} → statement M
 keep-memory-spec =

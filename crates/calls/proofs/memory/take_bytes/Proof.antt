@@ -6,10 +6,10 @@ use Rattle.calls.proofs.memory.take_bytes.Statement.{statement}
 use Rattle.calls.proofs.memory.take_bytes.Tie as tie
 
 abbrev Inv-loop : tie.InvT-loop
-Inv-loop given card₀ i₀ card i = length card ≡ length card₀
+Inv-loop places card₀ i₀ card i = length card ≡ length card₀
 
 abbrev μ-loop : tie.MeasureT-loop
-μ-loop given card₀ i₀ card i = length card₀ - i
+μ-loop places card₀ i₀ card i = length card₀ - i
 
 pub take-bytes-spec : {M : Type 1} → statement M
 take-bytes-spec =

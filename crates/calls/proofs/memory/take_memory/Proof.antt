@@ -6,10 +6,10 @@ use Rattle.calls.proofs.memory.take_memory.Statement.{statement}
 use Rattle.calls.proofs.memory.take_memory.Tie as tie
 
 abbrev Inv-loop : tie.InvT-loop
-Inv-loop given memory₀ i₀ place₀ memory i place = length memory ≡ length memory₀
+Inv-loop places memory₀ i₀ place₀ memory i place = length memory ≡ length memory₀
 
 abbrev μ-loop : tie.MeasureT-loop
-μ-loop given memory₀ i₀ place₀ memory i place = length memory₀ - i
+μ-loop places memory₀ i₀ place₀ memory i place = length memory₀ - i
 
 pub take-memory-spec : {M : Type 1} → statement M
 take-memory-spec =

@@ -6,10 +6,10 @@ use Rattle.calls.proofs.records.keep.Statement.{statement}
 use Rattle.calls.proofs.records.keep.Tie as tie
 
 abbrev Inv-loop : tie.InvT-loop
-Inv-loop words place left₀ i₀ left i = length left ≡ length left₀
+Inv-loop words place places₀ i₀ places i = length places ≡ length places₀
 
 abbrev μ-loop : tie.MeasureT-loop
-μ-loop words place left₀ i₀ left i = length words - i
+μ-loop words place places₀ i₀ places i = length words - i
 
 pub keep-spec : {M : Type 1} → statement M
 keep-spec =

@@ -6,10 +6,10 @@ use Rattle.calls.proofs.records.take.Statement.{statement}
 use Rattle.calls.proofs.records.take.Tie as tie
 
 abbrev Inv-loop : tie.InvT-loop
-Inv-loop given place words₀ i₀ words i = length words ≡ length words₀
+Inv-loop places place words₀ i₀ words i = length words ≡ length words₀
 
 abbrev μ-loop : tie.MeasureT-loop
-μ-loop given place words₀ i₀ words i = length words₀ - i
+μ-loop places place words₀ i₀ words i = length words₀ - i
 
 pub take-spec : {M : Type 1} → statement M
 take-spec =
