@@ -43,37 +43,36 @@ def addresses(region):
     return range(start, start + 4 * count)
 
 
+def overlap(one, other):
+    """Whether some address is in both regions."""
+    one, other = addresses(one), addresses(other)
+    return bool(one) and bool(other) and one.start < other.stop and other.start < one.stop
+
+
+def tests(text, lengths):
+    """The refusal table: whether the test holds, by its number. Those behind 2 ask for a card of 292 bytes."""
+    f = fields(text.ljust(HEAD, b"\0"))
+    (start, c), (other, d) = f["code"], f["data"]
+    used = set(SPECIALS.values()) - {SPECIALS["MODE"]}
+    return {
+        1: lambda: any(lengths[name] != BUFFERS[name] for name in BUFFERS),
+        2: lambda: len(text) < HEAD,
+        3: lambda: text[0:3] != b"SND",
+        4: lambda: text[3] + 256 * text[4] != 1,
+        5: lambda: any(text[5:8]),
+        6: lambda: c == 0 or c > 1024 or d > 1024,
+        7: lambda: len(text) != HEAD + 4 * (c + d),
+        8: lambda: start % 4 or other % 4,
+        9: lambda: start + 4 * c > MEMORY_BYTES or other + 4 * d > MEMORY_BYTES,
+        10: lambda: overlap(f["code"], f["data"]),
+        11: lambda: f["general"][0] or any(value for n, value in enumerate(f["special"]) if n not in used),
+        12: lambda: f["limit"] > MOST_STEPS,
+    }
+
+
 def refusal(text, lengths):
     """The number of the first test that holds, 0 where none does."""
-    if any(lengths[name] != BUFFERS[name] for name in BUFFERS):
-        return 1
-    if len(text) < HEAD:
-        return 2
-    if text[0:3] != b"SND":
-        return 3
-    if text[3] + 256 * text[4] != 1:
-        return 4
-    if any(text[5:8]):
-        return 5
-    f = fields(text)
-    c, d = f["code"][1], f["data"][1]
-    if c == 0 or c > 1024 or d > 1024:
-        return 6
-    if len(text) != HEAD + 4 * (c + d):
-        return 7
-    if any(f[region][0] % 4 for region in ("code", "data")):
-        return 8
-    if any(f[region][0] + 4 * f[region][1] > MEMORY_BYTES for region in ("code", "data")):
-        return 9
-    one, other = addresses(f["code"]), addresses(f["data"])
-    if one and other and one.start < other.stop and other.start < one.stop:
-        return 10
-    used = set(SPECIALS.values()) - {SPECIALS["MODE"]}
-    if f["general"][0] or any(value for number, value in enumerate(f["special"]) if number not in used):
-        return 11
-    if f["limit"] > MOST_STEPS:
-        return 12
-    return 0
+    return next((number for number, holds in tests(text, lengths).items() if holds()), 0)
 
 
 # ---- What a load leaves

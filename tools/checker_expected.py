@@ -62,10 +62,10 @@ def overlap(one, other):
     return bool(one) and bool(other) and one.start < other.stop and other.start < one.stop
 
 
-def refusal(machine, code, data, single):
-    """The number of the first test of the refusal table that holds, or 0."""
+def tests(machine, code, data, single):
+    """The refusal table as far as it concerns the assembler side: whether the test holds, by its number."""
     regions = (machine.code, machine.data)
-    tests = {
+    return {
         1: lambda: len(code) != BUFFER or len(data) != BUFFER,
         6: lambda: not 1 <= machine.code[1] <= 1024 or machine.data[1] > 1024,
         8: lambda: any(start % 4 for start, _ in regions),
@@ -74,7 +74,11 @@ def refusal(machine, code, data, single):
         11: lambda: machine.gpr[0] or any(machine.spr[n] for n in range(32) if n not in THIRTEEN or n == MODE),
         12: lambda: not single and machine.limit > MOST_STEPS,
     }
-    return next((number for number, holds in tests.items() if holds()), 0)
+
+
+def refusal(machine, code, data, single):
+    """The number of the first test that holds, or 0."""
+    return next((number for number, holds in tests(machine, code, data, single).items() if holds()), 0)
 
 
 # What the register instructions put in RD.
