@@ -9,6 +9,8 @@ proved code is run for it.
 import struct
 import sys
 
+sys.dont_write_bytecode = True
+
 import card_expected
 import checker_expected
 import vamp_expected
