@@ -98,8 +98,8 @@ VALUES = {
 }
 
 
-def checked_step(m, code, data):
-    """One checked step: the number and the word of the violation, with nothing changed, or (0, the word)."""
+def tested(m, code):
+    """The number of the first test that a step at DPC would break, or 0, and the word; None for the word of 21 and 22."""
     if m.dpc % 4:
         return 21, None
     if m.dpc not in addresses(m.code):
@@ -111,28 +111,35 @@ def checked_step(m, code, data):
     name, f = found
     if name not in TWENTY:
         return 24, here
+    if name in ("lw", "sw"):
+        ea = low(m.gpr[f["RS1"]] + f["imm"])
+        if ea % 4:
+            return 25, here
+        if ea not in addresses(m.data):
+            return 26, here
+    if name == "movi2s" and f["SA"] == MODE and m.gpr[f["RS1"]] != 0:
+        return 27, here
+    return 0, here
+
+
+def take(m, data, name, f):
+    """The step of one of the twenty."""
     a = m.gpr[f["RS1"]] if "RS1" in f else None
     b = m.gpr[f["RS2"]] if "RS2" in f else None
     imm, sa = f.get("imm"), f.get("SA")
     onward = low(m.pc + 4)
 
-    # Register and value, special register and value, the next PC'.
-    put, special, after = None, None, onward
+    # Register and value, the next PC'.
+    put, after = None, onward
     if name in ("lw", "sw"):
-        ea = low(a + imm)
-        if ea % 4:
-            return 25, here
-        if ea not in addresses(m.data):
-            return 26, here
-        at = addresses(m.data).index(ea) // 4
+        at = addresses(m.data).index(low(a + imm)) // 4
         if name == "lw":
             put = f["RD"], data[at]
         else:
             data[at] = m.gpr[f["RD"]]
     elif name == "movi2s":
-        if sa == MODE and a != 0:
-            return 27, here
-        special = sa, a
+        if sa in THIRTEEN:
+            m.spr[sa] = a
     elif name == "movs2i":
         put = f["RD"], m.spr[sa] if sa in THIRTEEN else 0
     elif name in ("beqz", "bnez"):
@@ -146,10 +153,15 @@ def checked_step(m, code, data):
         put = f["RD"], VALUES[name](a, b, imm, sa)
     if put and put[0] != 0:
         m.gpr[put[0]] = put[1]
-    if special and special[0] in THIRTEEN:
-        m.spr[special[0]] = special[1]
     m.dpc, m.pc = m.pc, after
-    return 0, here
+
+
+def checked_step(m, code, data):
+    """One checked step: the number and the word of the violation, with nothing changed, or (0, the word)."""
+    number, here = tested(m, code)
+    if not number:
+        take(m, data, *read(here))
+    return number, here
 
 
 def run(m, code, data, limit):

@@ -10,7 +10,6 @@ Call i of a seed is always the same. The answers come from the simulators that a
 import collections
 import random
 import re
-import struct
 import sys
 
 sys.dont_write_bytecode = True
@@ -149,7 +148,8 @@ def put_faults(rng, scene, fields):
     """Some of the faults 6 and 8 to 12, by the places of a record."""
     end = MEMORY + 4 - 4 * fields["code-words"]
     choices = [{"code-words": 0}, {"code-words": 1025}, {"data-words": 1025}, {"code-words": rng.getrandbits(32)},
-               {"code-start": fields["code-start"] + rng.randrange(1, 4)}, {"data-start": fields["data-start"] + rng.randrange(1, 4)},
+               {"code-start": fields["code-start"] + rng.randrange(1, 4)},
+               {"data-start": fields["data-start"] + rng.randrange(1, 4)},
                {"code-start": end}, {"data-start": MEMORY + 4 - 4 * scene.data_words}, {"code-start": rng.getrandbits(32)},
                {"data-start": 2**32 - 4 * max(scene.data_words, 1)}, {"code-start": 2**32 - 4 * scene.code_words},
                {"data-start": fields["code-start"]}, {"code-start": fields["data-start"]},
@@ -216,7 +216,8 @@ def card_bytes(rng, fields, scene):
                              {"more": -rng.randrange(4 * len(words), HEAD + 4 * len(words) + 1)},
                              {"more": rng.randrange(4 * CARD["card"] - HEAD - 4 * len(words))}))
     text = card(parts["mark"], parts["version"], parts["zeros"], (fields["code-start"], fields["code-words"]),
-                (fields["data-start"], fields["data-words"]), fields["dpc"], fields["pc"], fields["limit"], general, special, words)
+                (fields["data-start"], fields["data-words"]), fields["dpc"], fields["pc"], fields["limit"], general, special,
+                words)
     length = max(len(text) + parts["more"], 0)
     if fields["code-words"] == 1025 or fields["data-words"] == 1025:
         length = HEAD + 4 * (fields["code-words"] + fields["data-words"])

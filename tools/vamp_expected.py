@@ -18,6 +18,9 @@ ILLEGAL, MISALIGNED, TRAP, OVERFLOW = 1 << 1, 1 << 2, 1 << 5, 1 << 6
 # Size in bytes of each load and store.
 SIZE = {"lb": 1, "lbu": 1, "sb": 1, "lh": 2, "lhu": 2, "sh": 2, "lw": 4, "sw": 4}
 
+# The instructions that may overflow.
+OVERFLOWING = ("addo", "addio", "subo", "subio")
+
 # A long run reads the same words over and over.
 read = functools.lru_cache(maxsize=4096)(words_expected.read)
 
@@ -60,8 +63,8 @@ class Machine:
             return 11
         return 0
 
-    def step(self):
-        """Answer and cause word; all answers but 0 change nothing."""
+    def event(self):
+        """Answer and cause word of a step at DPC, by the first event in document 01's order; (0, 0) where there is none."""
         if self.dpc % 4:
             return 31, MISALIGNED
         if self.dpc >= MEMORY:
@@ -70,36 +73,50 @@ class Machine:
         if found is None:
             return 31, ILLEGAL
         name, f = found
+        if name in SIZE:
+            ea = low(self.gpr[f["RS1"]] + f["imm"])
+            if ea % SIZE[name]:
+                return 31, MISALIGNED
+            if ea >= MEMORY:
+                return 32, 0
+        if name == "trap":
+            return 31, TRAP
+        if name in OVERFLOWING and not -(2**31) <= self.exact(name, f) <= 2**31 - 1:
+            return 31 if self.spr[SR] >> 6 & 1 else 0, OVERFLOW
+        if name == "movi2s" and f["SA"] == MODE and self.gpr[f["RS1"]] != 0:
+            return 33, 0
+        return 0, 0
+
+    def exact(self, name, f):
+        """The sum or the difference as a whole number."""
+        a, b = signed(self.gpr[f["RS1"]]), f["imm"] if name.endswith("io") else signed(self.gpr[f["RS2"]])
+        return a + b if name.startswith("add") else a - b
+
+    def step(self):
+        """Answer and cause word; all answers but 0 change nothing."""
+        answer, cause = self.event()
+        if answer == 0:
+            self.take(*read(self.load(self.dpc, 4)))
+        return answer, cause
+
+    def take(self, name, f):
+        """The step of an instruction."""
         a = self.gpr[f["RS1"]] if "RS1" in f else None
         b = self.gpr[f["RS2"]] if "RS2" in f else None
         imm, sa, rd = f.get("imm"), f.get("SA"), f.get("RD")
-        cause, onward = 0, low(self.pc + 4)
+        onward = low(self.pc + 4)
 
         # Register and value, DPC, the next PC'.
         put, here, after = None, self.pc, onward
         if name in SIZE:
             ea, size = low(a + imm), SIZE[name]
-            if ea % size:
-                return 31, MISALIGNED
-            if ea >= MEMORY:
-                return 32, 0
             if name[0] == "s":
                 self.store(ea, size, self.gpr[rd])
             else:
                 put = rd, low(self.load(ea, size, name in ("lb", "lh")))
-        elif name == "trap":
-            return 31, TRAP
-        elif name in ("addo", "addio", "subo", "subio"):
-            other = imm if name.endswith("io") else signed(b)
-            result = signed(a) + other if name.startswith("add") else signed(a) - other
-            if not -(2**31) <= result <= 2**31 - 1:
-                if self.spr[SR] >> 6 & 1:
-                    return 31, OVERFLOW
-                cause = OVERFLOW
-            put = rd, low(result)
+        elif name in OVERFLOWING:
+            put = rd, low(self.exact(name, f))
         elif name == "movi2s":
-            if sa == MODE and a != 0:
-                return 33, 0
             if sa in THIRTEEN:
                 self.spr[sa] = a
         elif name == "movs2i":
@@ -109,16 +126,14 @@ class Machine:
         elif name in ("beqz", "bnez"):
             if (a == 0) == (name == "beqz"):
                 after = low(self.pc + imm)
-        elif name in ("j", "jal"):
-            put, after = (31, onward) if name == "jal" else None, low(self.pc + imm)
-        elif name in ("jr", "jalr"):
-            put, after = (31, onward) if name == "jalr" else None, a
+        elif name in ("j", "jal", "jr", "jalr"):
+            put = (31, onward) if name in ("jal", "jalr") else None
+            after = low(self.pc + imm) if name in ("j", "jal") else a
         else:
             put = rd, value(name, a, b, imm, sa)
         if put and put[0] != 0:
             self.gpr[put[0]] = put[1]
         self.dpc, self.pc = here, after
-        return 0, cause
 
     def run(self, limit):
         """Steps taken, answer and cause word of the last step, how many of the steps taken reported a cause."""

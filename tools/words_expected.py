@@ -46,19 +46,6 @@ SYNTAX = {
     "": "rfe",
 }
 
-# Document 01, "Checked by hand": the words that have a text there.
-BY_HAND = {
-    0x2401FFFC: "addi r1,r0,-4",
-    0x8C220008: "lw r2,r1(8)",
-    0x0022182B: "sge r3,r1,r2",
-    0x00200411: "movi2s SPR[16],r1",
-    0x5BE00000: "jr r31",
-    0xF8000005: "trap 5",
-    0x00430820: "addo r1,r2,r3",
-    0x0C000008: "jal 8",
-    0x1000FFFC: "beqz r0,-4",
-}
-
 NAME = re.compile(r"RD|RS1|RS2|SA|imm")
 
 

@@ -5,7 +5,8 @@ from words_expected import word
 
 # Code and data region, as (start, words): apart; data from the middle of a double word, code up to the end of memory; data
 # right behind the code; data up to the end of memory; data right before the code, both in the middle of a double word.
-LAYOUTS = [((0, 4), (256, 4)), ((MEMORY - 12, 3), (260, 3)), ((300, 5), (320, 2)), ((4, 3), (MEMORY - 12, 3)), ((276, 3), (268, 2))]
+LAYOUTS = [((0, 4), (256, 4)), ((MEMORY - 12, 3), (260, 3)), ((300, 5), (320, 2)), ((4, 3), (MEMORY - 12, 3)),
+           ((276, 3), (268, 2))]
 
 AROUND = range(-8, 9)
 
@@ -45,18 +46,19 @@ def checker(group):
         for name in SIZE:
             for at in addresses(code, data) if name in TWENTY else (data[0], data[0] + 1, MEMORY):
                 for base, imm in splits(at):
-                    group.numbered(f"{number} {name} {at}", "checker-step", {**regions, "r1": base, "code0": word(text(name, imm))})
+                    given = {**regions, "r1": base, "code0": word(text(name, imm))}
+                    group.numbered(f"{number} {name} {at}", "checker-step", given)
 
 
 def vamp(group):
     for number, (code, data) in enumerate(LAYOUTS[:2], 1):
-        given = {"dpc": code[0], "pc": code[0] + 4, "memory": FILLING, "r2": STORED}
+        record = {"dpc": code[0], "pc": code[0] + 4, "memory": FILLING, "r2": STORED}
         for name in SIZE:
             for at in addresses(code, data):
                 if number == 1 or at in range(data[0] - 8, MEMORY - 8):
                     for base, imm in splits(at):
-                        place = f"memory{code[0] // 4}"
-                        group.numbered(f"{number} {name} {at}", "vamp-step", {**given, "r1": base, place: word(text(name, imm))})
+                        given = {**record, "r1": base, f"memory{code[0] // 4}": word(text(name, imm))}
+                        group.numbered(f"{number} {name} {at}", "vamp-step", given)
 
 
 ABOUT = "loads and stores around the borders of the regions and of memory, and where the address wraps"

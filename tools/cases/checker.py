@@ -1,6 +1,6 @@
 """Steps and runs of the assembler machine."""
 from call_lines import buffer_places
-from checker_expected import BUFFER, MODE, THIRTEEN, TWENTY, low
+from checker_expected import BUFFER, TWENTY, low
 from words_expected import NAME, SYNTAX, TABLE, full, make, word
 
 # The data words of a case that says nothing else.
@@ -123,9 +123,12 @@ def violations(group):
     step(group, "27", registers(5), "movi2s SPR[16],r1")
 
 
-def refusals(group):
-    go = "addi r1,r0,5"
-    # From the last fault up to all of them: each line's first is the answer.
+# What a case of a refusal would run.
+GO = "addi r1,r0,5"
+
+
+def together(group):
+    """From the last fault up to all of them: the first of each line is the answer."""
     every = dict(limit=1000001, gpr={0: 1}, data=(16378, 1025), code=(16374, 8), dpc=0)
     faults = [
         ("12", dict(data=(256, 4), code=(0, 8), gpr={})),
@@ -136,8 +139,13 @@ def refusals(group):
         ("6, 8, 9, 10, 11, 12", {}),
     ]
     for name, better in faults:
-        both(group, "faults " + name, record(**{**every, **better}), go)
-    lent(group, "faults 1, 6, 8, 9, 10, 11, 12", record(**every), BUFFER, BUFFER - 1, go)
+        both(group, "faults " + name, record(**{**every, **better}), GO)
+    lent(group, "faults 1, 6, 8, 9, 10, 11, 12", record(**every), BUFFER, BUFFER - 1, GO)
+
+
+def refusals(group):
+    go = GO
+    together(group)
     # 1
     for code, data in ((1023, 1024), (1025, 1024), (1024, 1023), (1024, 1025), (0, 0)):
         lent(group, f"buffers of {code} and {data} words", record(), code, data, go)
@@ -206,7 +214,8 @@ def transfers(group):
     slot = ("jal 12", "beqz r0,8", "addi r2,r0,2", "addi r3,r0,3", "addi r4,r0,4", "addi r5,r0,5", "addi r6,r0,6")
     for limit in (1, 2, 3, 4):
         run(group, f"branch in a delay slot, limit {limit}", record(limit=limit), *slot)
-    run(group, "jr in the delay slot of jr", registers(24, 12, limit=4), "jr r1", "jr r2", "0", "addi r3,r0,3", "0", "0", "addi r4,r0,4")
+    two = ("jr r1", "jr r2", "0", "addi r3,r0,3", "0", "0", "addi r4,r0,4")
+    run(group, "jr in the delay slot of jr", registers(24, 12, limit=4), *two)
     run(group, "jal back", record(dpc=8), "0", "0", "jal -8")
     run(group, "there and back", record(limit=6), "jal 12", "addi r1,r0,1", "addi r2,r0,2", "0", "jr r31", "addi r3,r0,3")
     run(group, "jal with PC' FFFFFFFC", record(pc=0xFFFFFFFC, gpr={31: 5}), "jal 8")
@@ -255,7 +264,8 @@ def instructions(group):
 GROUPS = {
     "checker/by-hand": ("what document 01 lists under \"Checked by hand\".", by_hand),
     "checker/traps": ("what document 01 lists under \"Traps for the builder\".", traps),
-    "checker/violations": ("every violation, at step 0, after steps and by a single step, and the order of the tests.", violations),
+    "checker/violations": ("every violation, at step 0, after steps and by a single step, and the order of the tests.",
+                           violations),
     "checker/refusals": ("every refusal alone, and beside all that come after it.", refusals),
     "checker/limits": ("the limit of a run, which a single step does not look at.", limits),
     "checker/special": ("R0 and every special register.", special),

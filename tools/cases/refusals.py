@@ -6,7 +6,7 @@ combination in which one of them no longer holds is left out.
 import itertools
 
 from call_lines import card_places
-from card_expected import BUFFERS, HEAD, SPECIALS, card, tests as card_tests
+from card_expected import BUFFERS, HEAD, card, tests as card_tests
 from checker_expected import MODE, THIRTEEN
 from words_expected import word
 

@@ -100,6 +100,10 @@ def orders(group):
     run(group, "illegal function 08", record(0x7FFFFFFF, 1, spr={SR: 64}), 1, "00221808")
     run(group, "illegal function 30", record(), 1, "00000030")
     run(group, "floating-point opcode 11", record(), 1, "44000000")
+    later_orders(group)
+
+
+def later_orders(group):
     # 4 before 5.
     both(group, "lw misaligned and past memory", record(MEMORY + 1), "lw r2,r1(0)")
     run(group, "sw misaligned and past memory", record(MEMORY + 2, 5), 1, "sw r1(0),r2")
@@ -148,8 +152,9 @@ def special(group):
     both(group, "rfe", record(spr=marks), "rfe")
     run(group, "rfe, with other bits", record(spr=marks), 1, f"{full('rfe'):08X}")
     run(group, "rfe to a misaligned DPC", record(spr={ESR: 64, EPC: 8, EDPC: 6}), 2, "rfe")
-    run(group, "rfe and on", record(spr={ESR: 64, EPC: 12, EDPC: 8}), 3, "rfe", "0", "addi r1,r0,1", "addi r2,r0,2")
-    run(group, "rfe in a delay slot", record(spr={EPC: 12, EDPC: 16}), 3, "jal 20", "rfe", "0", "addi r1,r0,1", "addi r2,r0,2")
+    onward = ("0", "addi r1,r0,1", "addi r2,r0,2")
+    run(group, "rfe and on", record(spr={ESR: 64, EPC: 12, EDPC: 8}), 3, "rfe", *onward)
+    run(group, "rfe in a delay slot", record(spr={EPC: 12, EDPC: 16}), 3, "jal 20", "rfe", *onward)
 
 
 def transfers(group):
@@ -183,10 +188,12 @@ def sequences(group):
     both(group, "masked", record(0x7FFFFFFF, 1), "addo r3,r1,r2")
     for limit in (0, 1, 4, 8, 100):
         run(group, f"masked overflow in a loop, limit {limit}", record(0x7FFFFFFF, 1, gpr={4: 2}), limit, *over)
-    run(group, "masked overflow and a trap", record(0x7FFFFFFF, 1), 100, "addo r3,r1,r2", "addo r3,r1,r2", "addo r3,r0,r2", "trap 3")
+    twice = ("addo r3,r1,r2", "addo r3,r1,r2", "addo r3,r0,r2", "trap 3")
+    run(group, "masked overflow and a trap", record(0x7FFFFFFF, 1), 100, *twice)
     run(group, "limit 0 with DPC 3", record(dpc=3, pc=5), 0)
     run(group, "endless loop, limit 100000", record(), 100000, "beqz r0,-4", "addi r1,r1,1")
-    run(group, "MODE after three steps", record(1), 100, "addi r2,r0,2", "sw r0(256),r2", "movi2s SPR[0],r1", "movi2s SPR[16],r1")
+    mode = ("addi r2,r0,2", "sw r0(256),r2", "movi2s SPR[0],r1", "movi2s SPR[16],r1")
+    run(group, "MODE after three steps", record(1), 100, *mode)
 
 
 def instructions(group):
