@@ -34,6 +34,8 @@ BAD_INPUTS = ("r32=1", "spr32=0", "code1025=1", "data1025=0", "memory4098=0", "c
               "r1=4294967296", "r1=-2147483649", "code-length=1026", "data-length=1026", "memory-length=2050",
               "card-length=16385", "r1=1x", "=5", "r1")
 
+MOST_WORDS = 1024
+
 IDLE = [n for n in range(32) if n not in THIRTEEN or n == MODE]
 
 # Of these there are more than of others, since few of them have an event.
@@ -58,18 +60,20 @@ class Scene:
 
     def __init__(self, rng, names):
         self.rng = rng
-        self.code_words = rng.choice((1, 2, 3, 4, 6, 8, 8, 12, 16))
-        self.data_words = rng.choice((0, 1, 2, 4, 4, 8, 16))
+        self.length = rng.choice((1, 2, 3, 4, 6, 8, 8, 12, 16))
+        # In some the regions go on behind the program and the data, with zeros.
+        self.code_words = rng.choice((MOST_WORDS, rng.randrange(self.length, MOST_WORDS))) if seldom(rng, 20) else self.length
+        self.data_words = rng.choice((MOST_WORDS, MOST_WORDS - 1) if seldom(rng, 20) else (0, 1, 2, 4, 4, 8, 16))
         self.code_start, self.data_start = self.layout()
         self.gpr, self.spr = self.registers()
-        self.code = [self.instruction(n, names) for n in range(self.code_words)]
-        if self.code_words > 2 and not seldom(rng, 3):
+        self.code = [self.instruction(n, names) for n in range(self.length)]
+        if self.length > 2 and not seldom(rng, 3):
             # A loop: the branch, and a last word in its delay slot.
-            at = self.code_words - 2
+            at = self.length - 2
             self.code[at] = make("beqz", {"RS1": 0, "imm": -4 * rng.randrange(1, at + 2)})
         if seldom(rng, 12):
-            self.code[rng.randrange(self.code_words)] = rng.getrandbits(32)
-        self.data = [any_word(rng) for _ in range(self.data_words)]
+            self.code[rng.randrange(self.length)] = rng.getrandbits(32)
+        self.data = [any_word(rng) for _ in range(min(self.data_words, 16))]
         self.limit = rng.choice((0, 1, 1, 2, 3, 5, 8, 13, 20, 40, 60)) if not seldom(rng, 60) else 2000
         self.dpc, self.pc = self.counters()
 
@@ -83,7 +87,7 @@ class Scene:
 
     def registers(self):
         rng = self.rng
-        in_code = self.code_start + 4 * rng.randrange(self.code_words)
+        in_code = self.code_start + 4 * rng.randrange(self.length)
         gpr = {NEAR_DATA: low(self.data_start + 4 * rng.randrange(-1, self.data_words + 1)), IN_CODE: in_code,
                NEAR_END: low(MEMORY + rng.randrange(-8, 9)), CORNER: rng.choice(CORNERS), SMALL: rng.randrange(5),
                ANY: rng.getrandbits(32)}
@@ -98,7 +102,7 @@ class Scene:
 
     def counters(self):
         rng = self.rng
-        dpc = self.code_start + 4 * rng.randrange(self.code_words) if seldom(rng, 4) else self.code_start
+        dpc = self.code_start + 4 * rng.randrange(self.length) if seldom(rng, 4) else self.code_start
         if seldom(rng, 20):
             dpc = low(rng.choice((dpc + 1, dpc + 2, self.code_start - 4, self.data_start, MEMORY, rng.getrandbits(32))))
         return dpc, rng.choice((0, self.code_start, any_word(rng))) if seldom(rng, 10) else low(dpc + 4)
@@ -112,7 +116,7 @@ class Scene:
             fields["RS1"] = rng.choice((NEAR_DATA,) * 8 + (NEAR_END, any_register))
             fields["imm"] = self.offset(fields["RS1"], SIZE[name])
         elif name in ("beqz", "bnez", "j", "jal"):
-            fields["imm"] = 4 * (rng.randrange(self.code_words) - n - 1) + (rng.choice((1, 2, 512)) if seldom(rng, 12) else 0)
+            fields["imm"] = 4 * (rng.randrange(self.length) - n - 1) + (rng.choice((1, 2, 512)) if seldom(rng, 12) else 0)
         elif TABLE[name][0] != "R":
             fields["imm"] = rng.choice((*RANGE[TABLE[name][0]], -2, -1, 0, 1, 4, rng.randrange(-32768, 32768)))
         if name in ("jr", "jalr") and not seldom(rng, 10):
@@ -208,7 +212,8 @@ def card_bytes(rng, fields, scene):
     """A card of a record, with faults of a card in some."""
     special = {n: fields.get(f"spr{n}", 0) for n in range(32)}
     general = {n: fields.get(f"r{n}", 0) for n in range(32)}
-    words = scene.code + scene.data
+    words = scene.code + [0] * (scene.code_words - len(scene.code)) + scene.data
+    words += [0] * (scene.code_words + scene.data_words - len(words))
     parts = {"mark": b"SND", "version": 1, "zeros": bytes(3), "more": 0}
     if seldom(rng, 3):
         parts |= rng.choice(({"mark": rng.choice((b"SNd", b"\0ND", b"SDN"))}, {"version": rng.choice((0, 2, 256, 257))},
@@ -235,6 +240,8 @@ def card_call(rng, call):
             given |= wrong_lengths(rng, list(BUFFERS))
         for name, count in BUFFERS.items():
             given |= {f"{name}{rng.randrange(count)}": rng.getrandbits(32) for _ in range(rng.randrange(4))}
+            # Seldom, since its answer names every word.
+            given |= {name: rng.getrandbits(32)} if seldom(rng, 500) else {}
     return given
 
 
@@ -328,10 +335,12 @@ def write(seed, first, count, calls, answers):
 
 
 def main(words):
-    if len(words) == 4 and words[0] == "--stats":
-        stats(*map(int, words[1:]))
-    elif len(words) == 5:
-        write(*map(int, words[:3]), *words[3:])
+    numbers = words[1:] if words[:1] == ["--stats"] else words[:3]
+    decimal = len(numbers) == 3 and all(number.isdecimal() for number in numbers)
+    if decimal and words[0] == "--stats":
+        stats(*map(int, numbers))
+    elif decimal and len(words) == 5:
+        write(*map(int, numbers), *words[3:])
     else:
         print("usage: tools/random_calls.py SEED FIRST N CALLS ANSWERS, or --stats SEED FIRST N", file=sys.stderr)
         return 2
