@@ -171,6 +171,14 @@ def loads(group):
             group.call(name, "load", given if f["bytes"] is None else {**given, "card-length": f["bytes"]})
 
 
+def judged(group):
+    table = {**RECORD_FAULTS, **CARD_FAULTS}
+    for name, f in combinations(table, card_holding):
+        if f and "," not in name:
+            given = card_places(card_of(f))
+            group.call(name, "judge", given if f["bytes"] is None else {**given, "card-length": f["bytes"]})
+
+
 def lengths(f):
     return {f"{name}-length": f["lengths"][name] for name in BUFFERS}
 
@@ -207,6 +215,7 @@ ABOUT = "each fault alone, beside each other one, and beside all after it, in al
 
 GROUPS = {
     "card/pairs": (f"load: {ABOUT}", loads),
+    "cards/faults": ("judge: each fault of a card alone, and beside all after it.", judged),
     "checker/pairs-run": (f"checker-run: {ABOUT}", checker("checker-run")),
     "checker/pairs-step": (f"checker-step, which does not look at the limit: {ABOUT}", checker("checker-step")),
     "vamp/pairs-run": (f"vamp-run: {ABOUT}", vamp("vamp-run")),
