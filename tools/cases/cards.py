@@ -11,15 +11,15 @@ RUNS = "by-hand traps violations special transfers instructions".split()
 
 
 def judged(group):
-    for name, card, line in make_cards.samples():
-        group.call(name, "judge", card_places(card))
+    for name, content, line in make_cards.samples():
+        group.call(name, "judge", card_places(content))
         # By hand in make_cards, here by the simulator.
         assert group.answers[-1] == f"cards/judge/{name}: {line}", name
 
 
 def loaded(group):
-    for name, card, line in make_cards.samples():
-        group.call(name, "load", {**card_places(card), **SPARSE})
+    for name, content, line in make_cards.samples():
+        group.call(name, "load", {**card_places(content), **SPARSE})
         assert group.answers[-1] == f"cards/load/{name}: {line}" or not line.startswith("refused")
 
 
