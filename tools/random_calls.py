@@ -293,7 +293,9 @@ def inputs(rng, given):
     if seldom(rng, 10) and places:
         texts.insert(0, f"{rng.choice(places)}={rng.randrange(1024)}")
     if seldom(rng, 80):
-        texts.insert(rng.randrange(len(texts) + 1), rng.choice(BAD_INPUTS))
+        # A length last, so that none comes after it and wins.
+        bad = rng.choice(BAD_INPUTS)
+        texts.insert(len(texts) if "length" in bad else rng.randrange(len(texts) + 1), bad)
     return texts
 
 
