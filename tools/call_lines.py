@@ -123,10 +123,17 @@ class Given:
         return struct.pack(f"<{CARD['card']}I", *self.array("card"))[:length] if length else b""
 
 
+def filled(operands, count):
+    """So many operands, those that are not given 0. More than there can be make no call."""
+    if len(operands) > count:
+        raise NotACall
+    return operands + [0] * (count - len(operands))
+
+
 def made_values(name, operands):
-    """An instruction's values from its operands, those that are not given 0."""
-    values = {}
-    for field, number in zip(NAME.findall(TABLE[name][2]), [*operands, 0, 0, 0]):
+    """An instruction's values from its operands."""
+    values, fields = {}, NAME.findall(TABLE[name][2])
+    for field, number in zip(fields, filled(operands, len(fields))):
         least, most = (LEAST_IMMEDIATE, MOST_IMMEDIATE) if field == "imm" else (0, MOST_BYTE)
         if not least <= number <= most:
             raise NotACall
@@ -137,7 +144,7 @@ def made_values(name, operands):
 def parse(line):
     """The name, and (call, mnemonic, operands, given); None in place of these where the line is not a call."""
     name, colon, rest = line.partition(":")
-    words = rest.split()
+    words = [word for word in rest.split(" ") if word]
     try:
         if not colon or not words or words[0] not in CALLS:
             raise NotACall
@@ -156,8 +163,7 @@ def parsed(call, inputs):
             mnemonic = text
         else:
             operands.append(number_of(text))
-    if call == "make":
-        if mnemonic is None:
-            raise NotACall
-        operands = made_values(mnemonic, operands)
+    if (call == "make") != (mnemonic is not None):
+        raise NotACall
+    operands = made_values(mnemonic, operands) if mnemonic else filled(operands, 1 if call == "read" else 0)
     return call, mnemonic, operands, given
