@@ -77,7 +77,6 @@ BAD = {
     "mark of a tabulator": "read\t5",
     "make of nothing": "make",
     "operand too many": "make addi 1 2 3 4",
-    "operand of rfe": "make rfe 0",
     "make without mnemonic": "make 2 1 -4",
     "make of an unknown mnemonic": "make addx 2 1 -4",
     "make in capitals": "make ADDI 2 1 -4",
