@@ -3,8 +3,8 @@
 
     python3 tools/make_cards.py
 
-writes cards/*.card, cards/EXPECTED, the program inputs crates/verdict/stdin and crates/cards_test/stdin, and their
-outputs. The lines stand here as derived by hand from document 01; nothing of this repository is run for them.
+writes cards/*.card, cards/EXPECTED, and the input and output of the program verdict. The lines stand here as derived by hand
+from document 01; nothing of this repository is run for them. The cards are tests too: tools/make_tests.
 """
 import os
 import struct
@@ -107,16 +107,11 @@ def write(path, content):
 
 def main():
     os.makedirs(os.path.join(TOP, "cards"), exist_ok=True)
-    expected, bundle = "", b""
+    expected = ""
     for name, content, line in samples():
         write(f"cards/{name}.card", content)
         expected += f"{name}.card {line}\n"
-        bundle += struct.pack("<I", len(content)) + content
     write("cards/EXPECTED", expected.encode())
-    lines = "".join(row.split(" ", 1)[1] + "\n" for row in expected.splitlines())
-    os.makedirs(os.path.join(TOP, "crates/cards_test"), exist_ok=True)
-    write("crates/cards_test/stdin", bundle)
-    write("crates/cards_test/stdout", lines.encode())
     write("crates/verdict/stdin", card(**WHOLE))
     write("crates/verdict/stdout", b"violation 26 step 1 at 00000004 word 8C220008\n")
 

@@ -2,8 +2,9 @@
 """The program of the thesis (source document 000, table A.8): the integer square root of 453, assembled by document 01's
 tables.
 
-    python3 tools/thesis_program.py            the words, one to a line: address, word, text
-    python3 tools/thesis_program.py --rattle   the words as crates/vamp_test/src/thesis.rt has them
+    python3 tools/thesis_program.py
+
+prints the words, one to a line: address, word, text. The test vamp/thesis runs them.
 
 The text is the thesis' own, in document 01's syntax (`lw r3,r0(jtable)` where the thesis writes `lw r3,jtable(r0)`), with its
 one misprint mended (`imul.exit`). The array memfill has 4,080 bytes instead of 4,096, so that the data is 1,024 words, as much
@@ -11,7 +12,6 @@ as a card can hold. The two expressions over `res` and `sqr` give the high half 
 fills in. A branch's immediate is taken from the address of the next word, by document 01's rule on PC'.
 """
 import re
-import sys
 
 from words_expected import NAME, TABLE, make
 
@@ -119,10 +119,6 @@ def data(names):
 
 def main():
     program, names = assemble()
-    if sys.argv[1:] == ["--rattle"]:
-        for _, word, text in program:
-            print(f"    0x{word:08X}, // {text}")
-        return
     for address, word, text in program:
         print(f"{address} {word:08X} {text}")
     for address, word in data(names).items():

@@ -1,10 +1,6 @@
-#!/usr/bin/env python3
-"""What the program words_test must write, line by line, derived from document 01 and from nothing else.
+"""Reads and makes instruction words, by document 01 and nothing else.
 
-    python3 tools/words_expected.py > crates/words_test/stdout
-
-The tables below are document 01's, "Words", and the syntax of tables 1.2 to 1.4. The cases are those of
-crates/words_test/src; docs/TESTS.md lists them.
+The tables below are document 01's, "Words", and the syntax of tables 1.2 to 1.4.
 """
 import re
 
@@ -48,19 +44,6 @@ SYNTAX = {
     # table 1.4
     "imm": "j jal trap",
     "": "rfe",
-}
-
-# Document 01, "Checked by hand": the words that have a text there.
-BY_HAND = {
-    0x2401FFFC: "addi r1,r0,-4",
-    0x8C220008: "lw r2,r1(8)",
-    0x0022182B: "sge r3,r1,r2",
-    0x00200411: "movi2s SPR[16],r1",
-    0x5BE00000: "jr r31",
-    0xF8000005: "trap 5",
-    0x00430820: "addo r1,r2,r3",
-    0x0C000008: "jal 8",
-    0x1000FFFC: "beqz r0,-4",
 }
 
 NAME = re.compile(r"RD|RS1|RS2|SA|imm")
@@ -110,16 +93,22 @@ def make(name, values):
     return word
 
 
+# The mnemonic of each function of an R word, and of each opcode of the others.
+FUNCTIONS = {number: name for name, (form, number, _) in TABLE.items() if form == "R"}
+OPCODES = {number: name for name, (form, number, _) in TABLE.items() if form != "R"}
+
+
 def read(word):
     """Mnemonic and values; None for 23."""
-    for name, (form, number, syntax) in TABLE.items():
-        here = field(word, OPCODE)
-        if (here, field(word, FUNCTION)) == (0, number) if form == "R" else here == number:
-            values = {used: field(word, FIELDS[form][used]) for used in NAME.findall(syntax)}
-            if "imm" in values and values["imm"] > RANGE[form][1]:
-                values["imm"] -= 2 * (RANGE[form][1] + 1)
-            return name, values
-    return None
+    opcode = field(word, OPCODE)
+    name = OPCODES.get(opcode) if opcode else FUNCTIONS.get(field(word, FUNCTION))
+    if name is None:
+        return None
+    form, _, syntax = TABLE[name]
+    values = {used: field(word, FIELDS[form][used]) for used in NAME.findall(syntax)}
+    if "imm" in values and values["imm"] > RANGE[form][1]:
+        values["imm"] -= 2 * (RANGE[form][1] + 1)
+    return name, values
 
 
 def unused(name):
@@ -145,61 +134,3 @@ def word(text):
 def full(text):
     """The word of a text with ones in every field that the instruction does not use."""
     return word(text) | unused(text.split()[0])
-
-
-def operands(name, **others):
-    """The operands of a case: all different, the immediate negative for an odd opcode."""
-    form, number, _ = TABLE[name]
-    size = 1193046 if form == "J" else 4660
-    return {"RD": 2, "RS1": 1, "RS2": 31, "SA": 16, "imm": -size if number % 2 else size, **others}
-
-
-def made_line(name, values):
-    word = make(name, values)
-    print("made", "14" if word is None else f"{word:08X}", text(name, values))
-    return word
-
-
-def read_line(word):
-    found = read(word)
-    print("read", f"{word:08X}", "23" if found is None else text(*found))
-
-
-def both_lines(name, values):
-    word = made_line(name, values)
-    if word is not None:
-        read_line(word | unused(name))
-
-
-def number_line(kind, number, word):
-    found = read(word)
-    print(kind, f"{number:02X}", "23" if found is None else found[0])
-
-
-def main():
-    for name in TABLE:
-        both_lines(name, operands(name))
-    for word, known in BY_HAND.items():
-        assert text(*read(word)) == known
-        read_line(word)
-    for number in range(1, 64):
-        number_line("opcode", number, placed(number, OPCODE))
-    for number in range(64):
-        number_line("function", number, placed(number, FUNCTION))
-    for imm in (-32769, -32768, -1, 0, 32767, 32768):
-        for name in "beqz bnez addi lhgi sgei lw sw".split():
-            both_lines(name, operands(name, imm=imm))
-    for imm in (-33554433, -33554432, -1, 0, 33554431, 33554432):
-        for name in "j jal trap".split():
-            both_lines(name, operands(name, imm=imm))
-    for number in (31, 32, 255):
-        for name in """slli sll movs2i movi2s add lhg sge clr set clri seti beqz bnez jr jalr addi lhgi sgei lw
-                sw""".split():
-            for register in NAME.findall(TABLE[name][2]):
-                if register != "imm":
-                    made_line(name, operands(name, **{register: number}))
-    read_line(0)
-
-
-if __name__ == "__main__":
-    main()
