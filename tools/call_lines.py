@@ -22,7 +22,10 @@ ARRAYS = {**REGISTERS, **BUFFERS, **CARD}
 ORDER = [*NUMBERS, *REGISTERS, "steps", *LENGTHS, *BUFFERS, *CARD]
 
 LEAST_NUMBER, MOST_NUMBER = -(2**31), 2**32 - 1
-MOST_BYTE, LEAST_IMMEDIATE, MOST_IMMEDIATE = 255, -(2**31), 2**31 - 1
+MOST_OPERANDS = 3
+
+# From here on a number is written in hex.
+WORDLIKE = 2**16
 
 PLACE = re.compile(r"([a-z-]+)([0-9]+)?")
 NUMBER = re.compile(r"(-?)(?:x([0-9A-Fa-f]+)|([0-9]+))")
@@ -32,9 +35,8 @@ NUMBER = re.compile(r"(-?)(?:x([0-9A-Fa-f]+)|([0-9]+))")
 
 
 def short(number):
-    """Decimal where it is not longer than hex."""
-    decimal, digits = str(number), f"x{number:X}"
-    return digits if number >= 0 and len(digits) < len(decimal) else decimal
+    """Hex for what is rather a word than a number."""
+    return f"x{number:X}" if number >= WORDLIKE else str(number)
 
 
 def place_order(place):
@@ -104,10 +106,14 @@ class Given:
             if index is not None and int(index) >= ARRAYS[name]:
                 raise NotACall
             self.inputs[name].append((index, number))
-        elif index is None and name in self.numbers and number <= MOST.get(name, MOST_NUMBER):
+        elif name in self.numbers and int(index or 0) == 0:
             self.numbers[name] = number
         else:
             raise NotACall
+
+    def fits(self):
+        """Whether there can be buffers and a card of these lengths."""
+        return all(self.numbers[place] <= most for place, most in MOST.items())
 
     def array(self, name):
         words = [0] * ARRAYS[name]
@@ -124,21 +130,15 @@ class Given:
 
 
 def filled(operands, count):
-    """So many operands, those that are not given 0. More than there can be make no call."""
-    if len(operands) > count:
-        raise NotACall
-    return operands + [0] * (count - len(operands))
+    """So many operands, those that are not given 0."""
+    return (operands + [0] * count)[:count]
 
 
 def made_values(name, operands):
-    """An instruction's values from its operands."""
-    values, fields = {}, NAME.findall(TABLE[name][2])
-    for field, number in zip(fields, filled(operands, len(fields))):
-        least, most = (LEAST_IMMEDIATE, MOST_IMMEDIATE) if field == "imm" else (0, MOST_BYTE)
-        if not least <= number <= most:
-            raise NotACall
-        values[field] = number
-    return values
+    """An instruction's values from its operands: a byte for each register and SA, an immediate in two's complement."""
+    fields = NAME.findall(TABLE[name][2])
+    return {field: (number + 2**31) % 2**32 - 2**31 if field == "imm" else number % 2**8
+            for field, number in zip(fields, filled(operands, len(fields)))}
 
 
 def parse(line):
@@ -163,7 +163,8 @@ def parsed(call, inputs):
             mnemonic = text
         else:
             operands.append(number_of(text))
-    if (call == "make") != (mnemonic is not None):
+    most = MOST_OPERANDS if call == "make" else 1 if call == "read" else 0
+    if (call == "make") != (mnemonic is not None) or len(operands) > most or not given.fits():
         raise NotACall
-    operands = made_values(mnemonic, operands) if mnemonic else filled(operands, 1 if call == "read" else 0)
+    operands = made_values(mnemonic, operands) if mnemonic else filled(operands, 1)
     return call, mnemonic, operands, given

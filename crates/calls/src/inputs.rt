@@ -1,5 +1,6 @@
 // A call's text, put into places.
 use crate::calls::MAKE;
+use crate::calls::READ;
 use crate::names::CALLS;
 use crate::names::MNEMONICS;
 use crate::names::find;
@@ -133,7 +134,7 @@ fn take_setting(place: &[u8], text: &[u8], given: &mut [u32]) -> bool {
     if index.good { value.good } else { false }
 }
 
-// Whether there is a call, with a mnemonic for `make`, and the lengths are such as there can be.
+// Whether there is a call, with its operands, and the lengths are such as there can be.
 fn complete(given: &[u32]) -> bool {
     if at(given, CALL) as usize == KINDS {
         return false;
@@ -150,8 +151,19 @@ fn complete(given: &[u32]) -> bool {
     if at(given, CARD_LENGTH) as usize > BYTES {
         return false;
     }
-    if at(given, CALL) == MAKE {
-        return at(given, MNEMONIC) as usize != INSTRUCTIONS;
+    operands_fit(given)
+}
+
+// A mnemonic belongs to `make`, which cannot do without, and operands to `read` and `make`.
+fn operands_fit(given: &[u32]) -> bool {
+    let call = at(given, CALL);
+    let named = at(given, MNEMONIC) as usize != INSTRUCTIONS;
+    if call == MAKE {
+        return named;
     }
-    true
+    if named {
+        return false;
+    }
+    let most = if call == READ { 1 } else { 0 };
+    at(given, COUNT) <= most
 }
