@@ -1,13 +1,12 @@
 // The calls of the checker.
 use crate::changes::put_hex;
 use crate::changes::put_named;
-use crate::memory::least;
+use crate::memory::lent;
 use crate::places::CODE;
 use crate::places::CODE_LENGTH;
 use crate::places::DATA;
 use crate::places::DATA_LENGTH;
 use crate::places::WORDS;
-use crate::places::at;
 use crate::records::keep;
 use crate::records::keep_record;
 use crate::records::record_of;
@@ -30,8 +29,8 @@ pub(crate) fn put_checker(single: bool, places: &mut [u32]) {
 
 // Lends as much of the buffers as the call says.
 fn lend(single: bool, code: &[u32], words: &mut [u32], places: &mut [u32]) {
-    let c = least(at(places, CODE_LENGTH), code.len());
-    let d = least(at(places, DATA_LENGTH), words.len());
+    let c = lent(places, CODE_LENGTH, code.len());
+    let d = lent(places, DATA_LENGTH, words.len());
     let outcome = outcome_of(single, record_of(places), &code[0..c], &mut words[0..d]);
     let verdict = outcome.verdict;
     let after = outcome.machine;

@@ -1,7 +1,7 @@
 // The calls on the bytes of a card: the loader and the judge.
 use crate::changes::put_named;
 use crate::memory::keep_memory;
-use crate::memory::least;
+use crate::memory::lent;
 use crate::memory::take_bytes;
 use crate::memory::take_memory;
 use crate::places::BYTES;
@@ -13,7 +13,6 @@ use crate::places::DATA_LENGTH;
 use crate::places::DOUBLE_WORDS;
 use crate::places::MEMORY_LENGTH;
 use crate::places::WORDS;
-use crate::places::at;
 use crate::records::keep;
 use crate::records::keep_record;
 use crate::records::take;
@@ -25,14 +24,18 @@ use show::put_ruling;
 
 pub(crate) fn put_load(places: &mut [u32]) {
     let mut card = [0u8; BYTES];
+    take_bytes(places, &mut card);
+    load_card(&card, places);
+}
+
+fn load_card(card: &[u8], places: &mut [u32]) {
     let mut code = [0u32; WORDS];
     let mut words = [0u32; WORDS];
     let mut memory = [0u64; DOUBLE_WORDS];
-    take_bytes(places, &mut card);
     take(places, CODE, &mut code);
     take(places, DATA, &mut words);
     take_memory(places, &mut memory);
-    lend(&card, &mut code, &mut words, &mut memory, places);
+    lend(card, &mut code, &mut words, &mut memory, places);
     keep(&code, CODE, places);
     keep(&words, DATA, places);
     keep_memory(&memory, places);
@@ -40,10 +43,10 @@ pub(crate) fn put_load(places: &mut [u32]) {
 
 // Lends as much of the card and of the buffers as the call says.
 fn lend(card: &[u8], code: &mut [u32], words: &mut [u32], memory: &mut [u64], places: &mut [u32]) {
-    let n = least(at(places, CARD_LENGTH), card.len());
-    let c = least(at(places, CODE_LENGTH), code.len());
-    let d = least(at(places, DATA_LENGTH), words.len());
-    let m = least(at(places, MEMORY_LENGTH), memory.len());
+    let n = lent(places, CARD_LENGTH, card.len());
+    let c = lent(places, CODE_LENGTH, code.len());
+    let d = lent(places, DATA_LENGTH, words.len());
+    let m = lent(places, MEMORY_LENGTH, memory.len());
     let loaded = load(
         &card[0..n],
         &mut code[0..c],
@@ -66,6 +69,6 @@ fn put_loaded(answer: Answer) {
 pub(crate) fn put_judge(places: &[u32]) {
     let mut card = [0u8; BYTES];
     take_bytes(places, &mut card);
-    let n = least(at(places, CARD_LENGTH), BYTES);
+    let n = lent(places, CARD_LENGTH, BYTES);
     put_ruling(judge(&card[0..n]));
 }

@@ -22,7 +22,6 @@ use inputs::understood;
 use lines::Line;
 use lines::next_line;
 use places::PLACES;
-use places::fill;
 use records::keep;
 use show::put;
 use text::first;
@@ -42,12 +41,10 @@ const COLON: u8 = 58;
 fn main() {
     let mut block = [0u8; BLOCK];
     let mut line = [0u8; LINE];
-    let mut given = [0u32; PLACES];
-    let mut left = [0u32; PLACES];
-    all(&mut block, &mut line, &mut given, &mut left);
+    all(&mut block, &mut line);
 }
 
-fn all(block: &mut [u8], line: &mut [u8], given: &mut [u32], left: &mut [u32]) {
+fn all(block: &mut [u8], line: &mut [u8]) {
     let mut got = Line {
         at: 0,
         end: 0,
@@ -60,21 +57,21 @@ fn all(block: &mut [u8], line: &mut [u8], given: &mut [u32], left: &mut [u32]) {
         if !got.more {
             return;
         }
-        answer_first(line, got.length, given, left);
+        answer_first(line, got.length);
         lines -= 1;
     }
 }
 
 // Answers the line that stands in the first bytes of its room.
-fn answer_first(room: &[u8], length: usize, given: &mut [u32], left: &mut [u32]) {
+fn answer_first(room: &[u8], length: usize) {
     if length <= room.len() {
-        answer(&room[0..length], given, left);
+        answer(&room[0..length]);
         put(b"\n");
     }
 }
 
 // Empty lines and comments are written back; a call is answered behind its name.
-fn answer(line: &[u8], given: &mut [u32], left: &mut [u32]) {
+fn answer(line: &[u8]) {
     if line.len() == 0 {
         return;
     }
@@ -87,19 +84,24 @@ fn answer(line: &[u8], given: &mut [u32], left: &mut [u32]) {
     put(b": ");
     if colon < line.len() {
         let from = colon + 1;
-        answer_call(&line[from..], given, left);
+        answer_call(&line[from..]);
     } else {
         put(b"not a call");
     }
 }
 
-fn answer_call(call: &[u8], given: &mut [u32], left: &mut [u32]) {
-    fill(given, 0, PLACES, 0);
-    if understood(call, given) {
-        keep(given, 0, left);
-        perform(left);
-        put_changes(given, left);
+fn answer_call(call: &[u8]) {
+    let mut given = [0u32; PLACES];
+    if understood(call, &mut given) {
+        put_answer(&given);
     } else {
         put(b"not a call");
     }
+}
+
+fn put_answer(given: &[u32]) {
+    let mut left = [0u32; PLACES];
+    keep(given, 0, &mut left);
+    perform(&mut left);
+    put_changes(given, &left);
 }

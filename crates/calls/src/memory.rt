@@ -11,12 +11,12 @@ use std::num::wrapping_add_usize;
 // What the upper word of a double word is worth: 2^32.
 const UPPER: u64 = 4294967296;
 
-// A length that a call says, or the whole where it says more.
-pub(crate) fn least(length: u32, whole: usize) -> usize
-    ensures { λ r. ⌜ r ≤ whole ⌝ }
+// How many elements of so many are lent, by the place that says it.
+pub(crate) fn lent(places: &[u32], place: usize, most: usize) -> usize
+    ensures { λ r. ⌜ r ≤ most ⌝ }
 {
-    let said = length as usize;
-    if said < whole { said } else { whole }
+    let length = at(places, place) as usize;
+    if length < most { length } else { most }
 }
 
 // Each double word of two words, the lower first.

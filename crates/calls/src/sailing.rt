@@ -2,7 +2,7 @@
 use crate::changes::put_hex;
 use crate::changes::put_named;
 use crate::memory::keep_memory;
-use crate::memory::least;
+use crate::memory::lent;
 use crate::memory::take_memory;
 use crate::places::DOUBLE_WORDS;
 use crate::places::MEMORY_LENGTH;
@@ -24,7 +24,7 @@ pub(crate) fn put_vamp(single: bool, places: &mut [u32]) {
 
 // Lends as much of the memory as the call says.
 fn lend(single: bool, memory: &mut [u64], places: &mut [u32]) {
-    let m = least(at(places, MEMORY_LENGTH), memory.len());
+    let m = lent(places, MEMORY_LENGTH, memory.len());
     if single {
         put_step(&mut memory[0..m], places);
     } else {

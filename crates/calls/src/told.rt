@@ -45,10 +45,16 @@ fn told_of(instruction: Instruction) -> Told {
         Instruction::Clr(rd) => one(18, rd),
         Instruction::CompareRegister(k, rd, rs1, rs2) => three(comparison(k, 19), rd, rs1, rs2),
         Instruction::Set(rd) => one(25, rd),
+        _ => told_immediate(instruction),
+    }
+}
+
+// Of those with an immediate in their word.
+fn told_immediate(instruction: Instruction) -> Told {
+    match instruction {
         Instruction::J(imm) => with(26, 1, imm, 0, 0),
         Instruction::Jal(imm) => with(27, 1, imm, 0, 0),
         Instruction::Trap(imm) => with(28, 1, imm, 0, 0),
-        Instruction::Rfe => with(29, 0, 0, 0, 0),
         Instruction::Beqz(rs1, imm) => with(30, 2, rs1 as i32, imm, 0),
         Instruction::Bnez(rs1, imm) => with(31, 2, rs1 as i32, imm, 0),
         Instruction::ArithmeticImmediate(a, rd, rs1, imm) => immediate(
@@ -70,6 +76,7 @@ fn told_of(instruction: Instruction) -> Told {
         Instruction::Seti(rd) => one(49, rd),
         Instruction::Load(k, rd, rs1, imm) => immediate(load(k), rd, rs1, imm),
         Instruction::Store(k, rs1, imm, rd) => with(store(k), 3, rs1 as i32, imm, rd as i32),
+        _ => with(29, 0, 0, 0, 0),
     }
 }
 

@@ -5,10 +5,10 @@ use Rattle.calls.proofs.all.Statement.{statement}
 use Rattle.calls.proofs.all.Tie as tie
 
 abbrev Inv-loop : tie.InvT-loop
-Inv-loop block₀ line₀ given₀ left₀ got₀ lines₀ block line given left got lines = (length block ≡ length block₀) × ((length line ≡ length line₀) × ((length given ≡ length given₀) × (length left ≡ length left₀)))
+Inv-loop block₀ line₀ got₀ lines₀ block line got lines = (length block ≡ length block₀) × (length line ≡ length line₀)
 
 abbrev μ-loop : tie.MeasureT-loop
-μ-loop block₀ line₀ given₀ left₀ got₀ lines₀ block line given left got lines = lines
+μ-loop block₀ line₀ got₀ lines₀ block line got lines = lines
 
 pub all-spec : {M : Type 1} → statement M
 all-spec =
@@ -21,11 +21,7 @@ all-spec =
     (λ c. search needs)
     (λ c. search needs)
     (λ c. search needs)
-    (λ c. search needs)
-    (λ c. search needs)
     (λ c κs. search needs)
-    (λ c. search needs)
-    (λ c. search needs)
     (λ c. search needs)
     (λ c. search needs)
     (λ c. search needs)
