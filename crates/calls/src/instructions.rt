@@ -1,4 +1,4 @@
-// Instruction values by the number of their mnemonic and their operands in the order of the syntax.
+// Instruction values by the number of their mnemonic, its place in `MNEMONICS`, and their operands in the order of the syntax.
 use std::num::wrapping_sub_u32;
 use words::Arithmetic;
 use words::Comparison;
@@ -18,29 +18,14 @@ pub(crate) fn instruction_of(number: u32, a: u32, b: u32, c: u32) -> Instruction
     let second = low(b);
     let third = low(c);
     match number {
-        0..=3 => Instruction::ShiftImmediate(shift(number), first, second, third),
-        4..=7 => Instruction::ShiftRegister(
-            shift(wrapping_sub_u32(number, 4)),
-            first,
-            second,
-            third,
-        ),
+        0..=3 => Instruction::ShiftImmediate(shift(number, 0), first, second, third),
+        4..=7 => Instruction::ShiftRegister(shift(number, 4), first, second, third),
         8 => Instruction::Movs2i(first, second),
         9 => Instruction::Movi2s(first, second),
-        10..=16 => Instruction::ArithmeticRegister(
-            arithmetic(wrapping_sub_u32(number, 10)),
-            first,
-            second,
-            third,
-        ),
+        10..=16 => Instruction::ArithmeticRegister(arithmetic(number, 10), first, second, third),
         17 => Instruction::Lhg(first, second),
         18 => Instruction::Clr(first),
-        19..=24 => Instruction::CompareRegister(
-            comparison(wrapping_sub_u32(number, 19)),
-            first,
-            second,
-            third,
-        ),
+        19..=24 => Instruction::CompareRegister(comparison(number, 19), first, second, third),
         25 => Instruction::Set(first),
         26 => Instruction::J(signed(a)),
         27 => Instruction::Jal(signed(a)),
@@ -48,7 +33,7 @@ pub(crate) fn instruction_of(number: u32, a: u32, b: u32, c: u32) -> Instruction
         30 => Instruction::Beqz(first, signed(b)),
         31 => Instruction::Bnez(first, signed(b)),
         32..=38 => Instruction::ArithmeticImmediate(
-            arithmetic(wrapping_sub_u32(number, 32)),
+            arithmetic(number, 32),
             first,
             second,
             signed(c),
@@ -57,15 +42,10 @@ pub(crate) fn instruction_of(number: u32, a: u32, b: u32, c: u32) -> Instruction
         40 => Instruction::Jr(first),
         41 => Instruction::Jalr(first),
         42 => Instruction::Clri(first),
-        43..=48 => Instruction::CompareImmediate(
-            comparison(wrapping_sub_u32(number, 43)),
-            first,
-            second,
-            signed(c),
-        ),
+        43..=48 => Instruction::CompareImmediate(comparison(number, 43), first, second, signed(c)),
         49 => Instruction::Seti(first),
-        50..=54 => Instruction::Load(load(wrapping_sub_u32(number, 50)), first, second, signed(c)),
-        55..=57 => Instruction::Store(store(wrapping_sub_u32(number, 55)), first, signed(b), third),
+        50..=54 => Instruction::Load(load(number), first, second, signed(c)),
+        55..=57 => Instruction::Store(store(number), first, signed(b), third),
         _ => Instruction::Rfe,
     }
 }
@@ -83,7 +63,9 @@ fn signed(word: u32) -> i32 {
     }
 }
 
-fn shift(member: u32) -> Shift {
+// The members of a group have the numbers from the first one's on.
+fn shift(number: u32, first: u32) -> Shift {
+    let member = wrapping_sub_u32(number, first);
     match member {
         0 => Shift::Sll,
         1 => Shift::Sla,
@@ -92,7 +74,8 @@ fn shift(member: u32) -> Shift {
     }
 }
 
-fn arithmetic(member: u32) -> Arithmetic {
+fn arithmetic(number: u32, first: u32) -> Arithmetic {
+    let member = wrapping_sub_u32(number, first);
     match member {
         0 => Arithmetic::Addo,
         1 => Arithmetic::Add,
@@ -104,7 +87,8 @@ fn arithmetic(member: u32) -> Arithmetic {
     }
 }
 
-fn comparison(member: u32) -> Comparison {
+fn comparison(number: u32, first: u32) -> Comparison {
+    let member = wrapping_sub_u32(number, first);
     match member {
         0 => Comparison::Sgr,
         1 => Comparison::Seq,
@@ -115,20 +99,20 @@ fn comparison(member: u32) -> Comparison {
     }
 }
 
-fn load(member: u32) -> LoadKind {
-    match member {
-        0 => LoadKind::Lb,
-        1 => LoadKind::Lh,
-        2 => LoadKind::Lw,
-        3 => LoadKind::Lbu,
+fn load(number: u32) -> LoadKind {
+    match number {
+        50 => LoadKind::Lb,
+        51 => LoadKind::Lh,
+        52 => LoadKind::Lw,
+        53 => LoadKind::Lbu,
         _ => LoadKind::Lhu,
     }
 }
 
-fn store(member: u32) -> StoreKind {
-    match member {
-        0 => StoreKind::Sb,
-        1 => StoreKind::Sh,
+fn store(number: u32) -> StoreKind {
+    match number {
+        55 => StoreKind::Sb,
+        56 => StoreKind::Sh,
         _ => StoreKind::Sw,
     }
 }

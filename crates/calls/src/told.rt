@@ -11,7 +11,7 @@ use words::LoadKind;
 use words::Shift;
 use words::StoreKind;
 
-// The number of a mnemonic, how many operands it has, and these.
+// The number of a mnemonic, its place in `MNEMONICS`, how many operands it has, and these.
 pub struct Told {
     pub number: u8,
     pub count: u8,
