@@ -32,12 +32,6 @@ pub fn put_word(word: u32) {
     put(&digits);
 }
 
-// Two capital hex digits, of the low eight bits.
-pub fn put_byte(n: u32) {
-    let digits = hex(n);
-    put(&digits[6..8]);
-}
-
 // The verdict line of a ruling, without its end.
 pub fn put_ruling(ruling: Ruling) {
     let written = line(ruling);
