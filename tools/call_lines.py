@@ -1,11 +1,18 @@
-"""The text of calls and answers: what the program `calls` reads and writes. docs/TESTS.md has the format.
+#!/usr/bin/env python3
+"""Calls as lines of text, and as the numbers that the program `calls` reads. docs/TESTS.md has both formats.
+
+    tools/call_lines.py <LINES >NUMBERS            the numbers of each line
+    tools/call_lines.py --text <NUMBERS >LINES     and back: lines that mean the same
 
 A call is its name, the call's word, what it gives (a dict from places to numbers, such as {"dpc": 8, "code": 7, "code0": 1})
 and its operands. `write` makes the line of a call, short; `parse` reads any line by the format's rules, and knows nothing of
-`write`.
+`write`; `encode` makes the numbers of a line.
 """
 import re
 import struct
+import sys
+
+sys.dont_write_bytecode = True
 
 from words_expected import NAME, TABLE
 
@@ -168,3 +175,88 @@ def parsed(call, inputs):
         raise NotACall
     operands = made_values(mnemonic, operands) if mnemonic else filled(operands, 1)
     return call, mnemonic, operands, given
+
+
+# ---- Numbers
+
+# The number of each place, and of those that have no name in a line.
+CALL, MNEMONIC, OPERANDS = 12, 13, 14
+FIRST = {**{name: n for n, name in enumerate([*NUMBERS, "steps", *LENGTHS])}, "r": 32, "spr": 64, "code": 96, "data": 1121,
+         "memory": 2146, "card": 6244}
+
+MNEMONICS = list(TABLE)
+INPUT = struct.Struct("<3I")
+HEAD = struct.Struct("<2I")
+
+
+def packed(name, inputs):
+    text = name.encode()
+    return HEAD.pack(len(text), len(inputs)) + text + b"".join(INPUT.pack(*entry) for entry in inputs)
+
+
+def given_inputs(given):
+    """What a call gives, as place, count and number."""
+    usual = {**LENGTHS}
+    yield from ((FIRST[name], 1, number) for name, number in given.numbers.items() if number != usual.get(name, 0))
+    for name, inputs in given.inputs.items():
+        for index, number in inputs:
+            yield (FIRST[name], ARRAYS[name], number) if index is None else (FIRST[name] + int(index), 1, number)
+
+
+def encode(line):
+    """The numbers of a line. What is not a call is a name alone, with the answer that it is not."""
+    if not line or line.startswith("#"):
+        return packed(line, [])
+    name, call = parse(line)
+    if call is None:
+        return packed(f"{name}: not a call", [])
+    word, mnemonic, operands, given = call
+    inputs = [(CALL, 1, CALLS.index(word) + 1)]
+    if mnemonic:
+        inputs.append((MNEMONIC, 1, MNEMONICS.index(mnemonic)))
+        operands = operands.values()
+    inputs += [(OPERANDS + n, 1, number % 2**32) for n, number in enumerate(operands) if number]
+    return packed(f"{name}: ", inputs + list(given_inputs(given)))
+
+
+def place_text(place, count):
+    """The name of places, with an index where it is one of an array."""
+    name = max((name for name in FIRST if FIRST[name] <= place), key=FIRST.get)
+    return name if name not in ARRAYS or count > 1 else f"{name}{place - FIRST[name]}"
+
+
+def decode(numbers):
+    """Lines that mean what the numbers say."""
+    at = 0
+    while at < len(numbers):
+        length, count = HEAD.unpack_from(numbers, at)
+        at += HEAD.size + length
+        name = numbers[at - length:at].decode()
+        inputs = [INPUT.unpack_from(numbers, at + INPUT.size * n) for n in range(count)]
+        at += INPUT.size * count
+        fixed = {place: number for place, _, number in inputs if CALL <= place < OPERANDS + MOST_OPERANDS}
+        words = [f"{place_text(place, many)}={short(number)}" for place, many, number in inputs if place not in fixed]
+        if CALL in fixed:
+            used = MOST_OPERANDS if MNEMONIC in fixed else fixed[CALL] == 1
+            words = [str(fixed.get(OPERANDS + n, 0)) for n in range(used)] + words
+            words = [CALLS[fixed[CALL] - 1], *([MNEMONICS[fixed[MNEMONIC]]] if MNEMONIC in fixed else []), *words]
+        yield name + " ".join(words)
+
+
+def main(words):
+    if words == ["--text"]:
+        for line in decode(sys.stdin.buffer.read()):
+            print(line)
+    elif not words:
+        for line in sys.stdin:
+            sys.stdout.buffer.write(encode(line.rstrip("\n")))
+            if sys.stdin.isatty():
+                sys.stdout.buffer.flush()
+    else:
+        print("usage: tools/call_lines.py [--text]", file=sys.stderr)
+        return 2
+    return 0
+
+
+if __name__ == "__main__":
+    sys.exit(main(sys.argv[1:]))

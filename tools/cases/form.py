@@ -1,4 +1,5 @@
-"""The rules of the format itself: lines that show each, and lines that are not a call."""
+"""The rules of the format itself: lines that show each. Lines that are not a call are no cases, since the program never sees
+them: tools/check_commands tries these."""
 
 # What is not a call, behind the colon.
 BAD = {
@@ -179,15 +180,6 @@ RULES = {
 }
 
 
-def bad_lines(group):
-    for name, text in BAD.items():
-        label = f"{group.path}/{name}"
-        group.line(f"{label}: {text}".rstrip(), f"{label}: not a call")
-    group.line("a line without the mark of a name", "a line without the mark of a name: not a call")
-    group.line("read x2401FFFC", "read x2401FFFC: not a call")
-    group.line(f"{group.path}/two marks: a: read 0", f"{group.path}/two marks: not a call")
-
-
 def rules(group):
     for name, (text, answer) in RULES.items():
         label = f"{group.path}/{name}"
@@ -200,6 +192,5 @@ def rules(group):
 
 
 GROUPS = {
-    "form/bad-lines": ("what is not a call.", bad_lines),
     "form/rules": ("each rule of the format.", rules),
 }

@@ -16,24 +16,29 @@ use words::Reading;
 use words::make;
 use words::read;
 
-// The kinds of calls, in the order of their names.
-pub(crate) const READ: u32 = 0;
+// The kinds of calls.
+const NAME_ALONE: u32 = 0;
 
-pub(crate) const MAKE: u32 = 1;
+const READ: u32 = 1;
 
-pub(crate) const CHECKER_STEP: u32 = 2;
+const MAKE: u32 = 2;
 
-pub(crate) const CHECKER_RUN: u32 = 3;
+const CHECKER_STEP: u32 = 3;
 
-pub(crate) const VAMP_STEP: u32 = 4;
+const CHECKER_RUN: u32 = 4;
 
-pub(crate) const VAMP_RUN: u32 = 5;
+const VAMP_STEP: u32 = 5;
 
-pub(crate) const LOAD: u32 = 6;
+const VAMP_RUN: u32 = 6;
+
+const LOAD: u32 = 7;
+
+const JUDGE: u32 = 8;
 
 pub(crate) fn perform(places: &mut [u32]) {
     let call = at(places, CALL);
     match call {
+        NAME_ALONE => {}
         READ => put_read(places),
         MAKE => put_make(places),
         CHECKER_STEP => put_checker(true, places),
@@ -41,7 +46,8 @@ pub(crate) fn perform(places: &mut [u32]) {
         VAMP_STEP => put_vamp(true, places),
         VAMP_RUN => put_vamp(false, places),
         LOAD => put_load(places),
-        _ => put_judge(places),
+        JUDGE => put_judge(places),
+        _ => put(b"not a call"),
     }
 }
 

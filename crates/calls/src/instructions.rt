@@ -12,7 +12,7 @@ const HALF: u32 = 2147483648;
 
 const MOST: u32 = 4294967295;
 
-// The instruction of a number and its operands; registers and SA are bytes, and take the low eight bits.
+// The instruction of a number, and of any other rfe, and its operands; registers and SA are bytes, and take the low eight bits.
 pub(crate) fn instruction_of(number: u32, a: u32, b: u32, c: u32) -> Instruction {
     let first = low(a);
     let second = low(b);

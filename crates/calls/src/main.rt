@@ -1,102 +1,83 @@
-// Makes the calls that standard input asks for, one a line, and writes a line for each: what it answered, and what it left that
-// is not as the call gave it. docs/TESTS.md has the format. Nothing is decided here: each answer is a public call's own.
+// Makes the calls that standard input asks for, and writes a line for each: its name, what it answered, and what it left that is
+// not as the call gave it. docs/TESTS.md has the format. Nothing is decided here: each answer is a public call's own.
 mod calls;
 mod changes;
 mod checking;
 mod inputs;
 mod instructions;
-mod lines;
 mod loading;
 mod memory;
 mod names;
-mod numbers;
 mod places;
 mod records;
 mod sailing;
-mod text;
 mod told;
 
 use calls::perform;
 use changes::put_changes;
-use inputs::understood;
-use lines::Line;
-use lines::next_line;
+use inputs::take_inputs;
+use libc::STDIN_FILENO;
 use places::PLACES;
 use records::keep;
 use show::put;
-use text::first;
+use show::word;
 
 // A count that no input reaches: the loop ends with its input.
-const LINES: u64 = 0xFFFFFFFFFFFFFFFF;
+const CALLS: u64 = 0xFFFFFFFFFFFFFFFF;
 
-const BLOCK: usize = 65536;
-
-// Room for a line: a card of the longest kind with each word named takes less.
-const LINE: usize = 131072;
-
-const HASH: u8 = 35;
-
-const COLON: u8 = 58;
+// Room for a name.
+const NAME: usize = 4096;
 
 fn main() {
-    let mut block = [0u8; BLOCK];
-    let mut line = [0u8; LINE];
-    all(&mut block, &mut line);
+    let mut name = [0u8; NAME];
+    all(&mut name);
 }
 
-fn all(block: &mut [u8], line: &mut [u8]) {
-    let mut got = Line {
-        at: 0,
-        end: 0,
-        length: 0,
-        more: true,
-    };
-    let mut lines = LINES;
-    while lines > 0 {
-        got = next_line(block, got.at, got.end, line);
-        if !got.more {
+fn all(name: &mut [u8]) {
+    let mut left = CALLS;
+    while left > 0 {
+        if !one(name) {
             return;
         }
-        answer_first(line, got.length);
-        lines -= 1;
+        left -= 1;
     }
 }
 
-// Answers the line that stands in the first bytes of its room.
-fn answer_first(room: &[u8], length: usize) {
-    if length <= room.len() {
-        answer(&room[0..length]);
-        put(b"\n");
+// Whether there was a call. It begins with the length of its name and the number of its inputs.
+fn one(name: &mut [u8]) -> bool {
+    let mut head = [0u8; 8];
+    let got = io::read_full(STDIN_FILENO, &mut head);
+    if got == 0 {
+        return false;
     }
+    let length = word(head[0], head[1], head[2], head[3]) as usize;
+    let inputs = word(head[4], head[5], head[6], head[7]);
+    if got < 8 {
+        return cut();
+    }
+    if length > name.len() {
+        return cut();
+    }
+    named(&mut name[0..length], inputs)
 }
 
-// Empty lines and comments are written back; a call is answered behind its name.
-fn answer(line: &[u8]) {
-    if line.len() == 0 {
-        return;
-    }
-    if line[0] == HASH {
-        put(line);
-        return;
-    }
-    let colon = first(line, COLON);
-    put(&line[0..colon]);
-    put(b": ");
-    if colon < line.len() {
-        let from = colon + 1;
-        answer_call(&line[from..]);
-    } else {
-        put(b"not a call");
-    }
+// An input that ends inside a call has to show in the output; nothing follows it.
+fn cut() -> bool {
+    put(b"the input ends inside a call\n");
+    false
 }
 
-fn answer_call(call: &[u8]) {
+fn named(name: &mut [u8], inputs: u32) -> bool {
+    if io::read_full(STDIN_FILENO, name) < name.len() {
+        return cut();
+    }
     let mut given = [0u32; PLACES];
-    if understood(call, &mut given) {
-        put_answer(&given);
-    } else {
-        put(b"not a call");
+    if !take_inputs(inputs, &mut given) {
+        return cut();
     }
+    put(name);
+    put_answer(&given);
+    true
 }
 
 fn put_answer(given: &[u32]) {
@@ -104,4 +85,5 @@ fn put_answer(given: &[u32]) {
     keep(given, 0, &mut left);
     perform(&mut left);
     put_changes(given, &left);
+    put(b"\n");
 }

@@ -1,7 +1,6 @@
 // What a call is given, and what it leaves, is an array of words. A place is an index of it.
 use crate::names::ARRAYS;
 use crate::names::NUMBERS;
-use crate::names::find;
 use crate::names::put_name;
 use show::put_number;
 
@@ -31,18 +30,12 @@ pub(crate) const MEMORY_LENGTH: usize = 10;
 
 pub(crate) const CARD_LENGTH: usize = 11;
 
-// So many places have a name in `NUMBERS`.
-const NAMED: usize = 12;
-
-// These have none: the call, the mnemonic, how many operands there are, and these. The first two are places in their tables
-// of names.
+// The call, the number of a mnemonic, and up to three operands.
 pub(crate) const CALL: usize = 12;
 
 pub(crate) const MNEMONIC: usize = 13;
 
-pub(crate) const COUNT: usize = 14;
-
-pub(crate) const OPERANDS: usize = 15;
+pub(crate) const OPERANDS: usize = 14;
 
 // The arrays, in the order of `ARRAYS`.
 pub(crate) const R: usize = 32;
@@ -65,33 +58,6 @@ pub(crate) const WORDS: usize = 1025;
 pub(crate) const DOUBLE_WORDS: usize = 2049;
 
 pub(crate) const BYTES: usize = 16384;
-
-// The places `from` to `to` - 1.
-pub struct Span {
-    pub from: usize,
-    pub to: usize,
-}
-
-// The places of a name; none where it is no name.
-pub(crate) fn span_of(name: &[u8]) -> Span {
-    let number = find(&NUMBERS, name);
-    if number < NAMED {
-        return between(number, number + 1);
-    }
-    match find(&ARRAYS, name) {
-        0 => between(R, SPR),
-        1 => between(SPR, CODE),
-        2 => between(CODE, DATA),
-        3 => between(DATA, MEMORY),
-        4 => between(MEMORY, CARD),
-        5 => between(CARD, PLACES),
-        _ => between(0, 0),
-    }
-}
-
-fn between(from: usize, to: usize) -> Span {
-    Span { from, to }
-}
 
 pub(crate) fn put_place(place: usize) {
     if place < R {
@@ -122,13 +88,5 @@ pub(crate) fn at(given: &[u32], place: usize) -> u32 {
 pub(crate) fn set(given: &mut [u32], place: usize, value: u32) {
     if place < given.len() {
         given[place] = value;
-    }
-}
-
-pub(crate) fn fill(given: &mut [u32], from: usize, to: usize, value: u32) {
-    let mut i = from;
-    while i < to {
-        set(given, i, value);
-        i += 1;
     }
 }

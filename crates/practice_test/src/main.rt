@@ -9,6 +9,7 @@ use libc::STDIN_FILENO;
 use show::ROOM;
 use show::put;
 use show::put_ruling;
+use show::word;
 
 // A count that no bundle reaches: the loop ends with its input.
 const CARDS: u64 = 0xFFFFFFFFFFFFFFFF;
@@ -38,16 +39,12 @@ fn one(card: &mut [u8]) -> bool {
     if got < 4 {
         return cut();
     }
-    let n = number(length[0], length[1], length[2], length[3]);
+    let n = word(length[0], length[1], length[2], length[3]) as usize;
     if n < card.len() {
         return answer(&mut card[..n], 0);
     }
     let past = n - card.len();
     answer(card, past)
-}
-
-fn number(a: u8, b: u8, c: u8, d: u8) -> usize {
-    a as usize + 256 * (b as usize) + 65536 * (c as usize) + 16777216 * (d as usize)
 }
 
 // A bundle that ends inside a card has to show in the output; nothing follows it.

@@ -1,7 +1,7 @@
-// What the programs share that show what was read and done: text and numbers on standard output, the room for a card, and the
-// two words of a double word.
+// What the programs share: text and numbers on standard output, the room for a card, the word of four bytes and the two words of
+// a double word.
 ghost use mathlib.Core.Path.{_≡_};
-ghost use Prim.Native.Nat.{_/_, _%_, _^_};
+ghost use Prim.Native.Nat.{_+_, _*_, _/_, _%_, _^_};
 use judge::Ruling;
 use judge::hex;
 use judge::line;
@@ -41,6 +41,13 @@ pub fn put_ruling(ruling: Ruling) {
         let end = len - 1;
         put(&bytes[..end]);
     }
+}
+
+// The word of four bytes, the lowest first.
+pub fn word(a: u8, b: u8, c: u8, d: u8) -> u32
+    ensures { λ r. ⌜ r ≡ a + 2 ^ 8 * b + 2 ^ 16 * c + 2 ^ 24 * d ⌝ }
+{
+    a as u32 + 256 * (b as u32) + 65536 * (c as u32) + 16777216 * (d as u32)
 }
 
 // The word at the lower address of a double word.

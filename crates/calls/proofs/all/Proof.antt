@@ -5,10 +5,10 @@ use Rattle.calls.proofs.all.Statement.{statement}
 use Rattle.calls.proofs.all.Tie as tie
 
 abbrev Inv-loop : tie.InvT-loop
-Inv-loop block₀ line₀ got₀ lines₀ block line got lines = (length block ≡ length block₀) × (length line ≡ length line₀)
+Inv-loop name₀ left₀ name left = length name ≡ length name₀
 
 abbrev μ-loop : tie.MeasureT-loop
-μ-loop block₀ line₀ got₀ lines₀ block line got lines = lines
+μ-loop name₀ left₀ name left = left
 
 pub all-spec : {M : Type 1} → statement M
 all-spec =
@@ -19,9 +19,6 @@ all-spec =
     (λ c. search needs)
     (λ c κs. search needs)
     (λ c. search needs)
-    (λ c. search needs)
-    (λ c. search needs)
-    (λ c κs. search needs)
     (λ c. search needs)
     (λ c. search needs)
     (λ c. search needs)

@@ -1,24 +1,23 @@
-use borrow.Author.Needs.{needs}
 use Prim.Native.Nat.{_-_, _≤_}
+use borrow.Author.Needs.{needs}
 use lib.ListN.{length}
-use Rattle.calls.proofs.text.first_digit.Statement.{statement}
-use Rattle.calls.proofs.text.first_digit.Tie as tie
+use Rattle.calls.proofs.names.name_end.Statement.{statement}
+use Rattle.calls.proofs.names.name_end.Tie as tie
 
 abbrev Inv-loop : tie.InvT-loop
-Inv-loop text i₀ i = i ≤ length text
+Inv-loop names from i₀ i = (from ≤ i) × (i ≤ length names)
 
 abbrev μ-loop : tie.MeasureT-loop
-μ-loop text i₀ i = length text - i
+μ-loop names from i₀ i = length names - i
 
-pub first-digit-spec : {M : Type 1} → statement M
-first-digit-spec =
+pub name-end-spec : {M : Type 1} → statement M
+name-end-spec =
     tie.close
     (tie.spec
     Inv-loop
     μ-loop
     (λ c. search needs)
     (λ c. search needs)
-    (λ c κs. search needs)
     (λ c. search needs)
     (λ c. search needs)
     (λ c. search needs)

@@ -1,24 +1,25 @@
-use Prim.Native.Nat.{_-_}
 use borrow.Author.Needs.{needs}
 use lib.ListN.{length}
 use mathlib.Core.Path.{_≡_}
-use Rattle.calls.proofs.places.fill.Statement.{statement}
-use Rattle.calls.proofs.places.fill.Tie as tie
+use Rattle.calls.proofs.inputs.take_all.Statement.{statement}
+use Rattle.calls.proofs.inputs.take_all.Tie as tie
 
 abbrev Inv-loop : tie.InvT-loop
-Inv-loop given₀ from to value i₀ given i = length given ≡ length given₀
+Inv-loop count given₀ left₀ given left = length given ≡ length given₀
 
 abbrev μ-loop : tie.MeasureT-loop
-μ-loop given₀ from to value i₀ given i = to - i
+μ-loop count given₀ left₀ given left = left
 
-pub fill-spec : {M : Type 1} → statement M
-fill-spec =
+pub take-all-spec : {M : Type 1} → statement M
+take-all-spec =
     tie.close
     (tie.spec
     Inv-loop
     μ-loop
     (λ c. search needs)
     (λ c κs. search needs)
+    (λ c. search needs)
+    (λ c. search needs)
     (λ c. search needs)
     (λ c. search needs)
     (λ c. search needs)
