@@ -30,7 +30,7 @@ CORNERS = (0, 1, 2, 3, 2**31 - 2, 2**31 - 1, 2**31, 2**31 + 1, 2**32 - 2, 2**32 
 NEAR_DATA, IN_CODE, NEAR_END, CORNER, SMALL, ANY, LINK = 1, 2, 3, 4, 5, 6, 31
 
 # What a line has that makes it not a call.
-BAD_INPUTS = ("r32=1", "spr32=0", "code1025=1", "data1025=0", "memory4098=0", "card4096=0", "x=1", "r1=", "r1=x", "pc0=1",
+BAD_INPUTS = ("r32=1", "spr32=0", "code1025=1", "data1025=0", "memory4098=0", "card4096=0", "x=1", "r1=", "r1=x", "pc1=1",
               "r1=4294967296", "r1=-2147483649", "code-length=1026", "data-length=1026", "memory-length=2050",
               "card-length=16385", "r1=1x", "=5", "r1")
 
