@@ -2,7 +2,7 @@
 use mathlib.Core.Path.{refl}
 use Rattle.words.specs.Fields.{opcode, function, field, immediate16, immediate26}
 use Rattle.words.specs.Words.{reading}
-use Rattle.machine.specs.Rulings.{plus, sext, satisfies}
+use Rattle.arithmetic.specs.Rulings.{plus, sext, satisfies}
 use Rattle.machine.specs.Effects.{act, moved, meaning, applied, register, put, access, askew, modeSet, illegal}
 use Rattle.machine.specs.Record.{wordAt}
 use Rattle.checker.specs.Checks as checks

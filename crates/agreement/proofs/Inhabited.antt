@@ -12,7 +12,7 @@ use Rattle.machine.specs.Record.{DOUBLE-WORDS, LONGEST, wrongCount, unalignedSt
 use Rattle.card.specs.Card.{Bytes, refusal, recordOf, wrongLength, tooShort, wrongMark, wrongVersion, reservedSet, wrongSize, tab, number16, number32}
 use Rattle.words.specs.Fields.{opcode, function, field, immediate16, immediate26}
 use Rattle.words.specs.Words.{reading}
-use Rattle.machine.specs.Rulings.{plus, sext}
+use Rattle.arithmetic.specs.Rulings.{plus, sext}
 use Rattle.machine.specs.Effects.{act, moved, meaning, applied, register, put, putSpecial, access, askew, modeSet, illegal}
 use Rattle.machine.specs.Record.{wordAt, image}
 use Rattle.machine.specs.declared.Machine.{Machine}

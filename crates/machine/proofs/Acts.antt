@@ -8,8 +8,8 @@ use Rattle.words.specs.Fields.{opcode, function}
 use Rattle.words.specs.Words.{reading}
 use Rattle.words.specs.declared.Instruction.{Instruction}
 use Rattle.words.proofs.Legal.{legal, legal-reads, illegal-answers-23}
+use Rattle.arithmetic.specs.Rulings.{plus}
 use Rattle.machine.specs.declared.Effect.the-variants as does
-use Rattle.machine.specs.Rulings.{plus}
 use Rattle.machine.specs.Effects.{State, act, meaning, illegal}
 
 -- A word is legal, and means an instruction, or it is not

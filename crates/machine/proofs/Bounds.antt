@@ -26,12 +26,12 @@ use Rattle.words.specs.declared.Arithmetic.the-variants.{Addo, Add, Subo, Sub, 
 use Rattle.words.proofs.Signed.{signed-low, signed-high}
 use Rattle.words.proofs.Numbering.{filled}
 use Rattle.words.proofs.Again.{read-filled}
+use Rattle.arithmetic.specs.Rulings.{plus, minus, integer, sext, high, shifted, bit, satisfies, compared}
+use Rattle.arithmetic.proofs.Integers.{integer-low, integer-high}
 use Rattle.machine.specs.declared.Effect.{Effect}
 use Rattle.machine.specs.declared.Effect.the-variants as does
-use Rattle.machine.specs.Rulings.{plus, minus, integer, sext, high, shifted, bit, satisfies, compared}
 use Rattle.machine.specs.Effects.{State, register, put, putSpecial, computed, meaning, applied, act, moved, thirteen, one-of, SR, ESR}
 use Rattle.machine.proofs.Acts.{word-reads, act-reads, act-illegal}
-use Rattle.machine.proofs.Integers.{integer-low, integer-high}
 
 -- Every element is a word
 abbrev pub Words : List ℕ → Type 0

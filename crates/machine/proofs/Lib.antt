@@ -1,4 +1,3 @@
-pub mod Integers
 pub mod Special
 pub mod Quiet
 pub mod Regions

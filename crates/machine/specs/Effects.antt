@@ -17,9 +17,9 @@ use Rattle.words.specs.declared.LoadKind.{LoadKind}
 use Rattle.words.specs.declared.LoadKind.the-variants.{Lb, Lh, Lw, Lbu, Lhu}
 use Rattle.words.specs.declared.StoreKind.{StoreKind}
 use Rattle.words.specs.declared.StoreKind.the-variants.{Sb, Sh, Sw}
+use Rattle.arithmetic.specs.Rulings.{plus, minus, integer, sext, high, shifted, compared, beyond}
 use Rattle.machine.specs.declared.Effect.{Effect}
 use Rattle.machine.specs.declared.Effect.the-variants as does
-use Rattle.machine.specs.Rulings.{plus, minus, integer, sext, high, shifted, compared, beyond}
 
 -- ---- The registers
 

@@ -1,15 +1,15 @@
 // The parts of what an instruction does.
 ghost use mathlib.Core.Path.{_≡_};
+ghost use Rattle.arithmetic.specs.Rulings.{plus, sext};
 ghost use Rattle.machine.specs.Effects.{computed, register};
-ghost use Rattle.machine.specs.Rulings.{plus, sext};
 ghost use Rattle.words.specs.Fields.{pick};
 use crate::Act;
 use crate::Effect;
-use crate::arithmetic::difference;
-use crate::arithmetic::difference_beyond;
-use crate::arithmetic::sext_of;
-use crate::arithmetic::sum_beyond;
 use crate::registers::value;
+use arithmetic::difference;
+use arithmetic::difference_beyond;
+use arithmetic::sext_of;
+use arithmetic::sum_beyond;
 use std::num::wrapping_add_u32;
 use words::Arithmetic;
 

@@ -4,7 +4,6 @@ ghost use mathlib.Core.Path.{_≡_};
 ghost use Rattle.machine.specs.Effects.{meaning, applied};
 ghost use Rattle.machine.specs.Record.{zeros};
 
-mod arithmetic;
 mod effects;
 pub mod refusals;
 mod registers;

@@ -6,7 +6,7 @@ use native.Mathlib.Omega.{arith}
 use lib.Pow.{pow-pos, pow-mono, shl-exact, shr-shr, split}
 use Rattle.words.specs.Fields.{signed}
 use Rattle.words.proofs.Signed.{signed-low, signed-high}
-use Rattle.machine.specs.Rulings.{sext}
+use Rattle.arithmetic.specs.Rulings.{sext}
 use Rattle.vamp.specs.Memory.{patch}
 use Rattle.vamp.proofs.Memory.{patch-below}
 

@@ -7,7 +7,7 @@ use Rattle.words.specs.declared.LoadKind.{LoadKind}
 use Rattle.words.specs.declared.LoadKind.the-variants.{Lb, Lh, Lw, Lbu, Lhu}
 use Rattle.words.specs.declared.StoreKind.{StoreKind}
 use Rattle.words.specs.declared.StoreKind.the-variants.{Sb, Sh, Sw}
-use Rattle.machine.specs.Rulings.{sext}
+use Rattle.arithmetic.specs.Rulings.{sext}
 
 -- ---- Any number of bits
 

@@ -3,7 +3,7 @@ use native.Mathlib.Omega.{arith}
 use Rattle.machine.proofs.meaning.Statement.{statement}
 use Rattle.machine.proofs.meaning.Tie as tie
 use Rattle.machine.specs.Effects.{meaning}
-use Rattle.machine.specs.Rulings.{plus}
+use Rattle.arithmetic.specs.Rulings.{plus}
 use Rattle.words.proofs.Signed.{kept}
 
 pub meaning-spec : {M : Type 1} → statement M

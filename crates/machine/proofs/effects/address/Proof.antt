@@ -1,7 +1,7 @@
 use borrow.Author.Needs.{needs}
 use Rattle.machine.proofs.effects.address.Statement.{statement}
 use Rattle.machine.proofs.effects.address.Tie as tie
-use Rattle.machine.specs.Rulings.{plus}
+use Rattle.arithmetic.specs.Rulings.{plus}
 use Rattle.words.proofs.Signed.{kept}
 
 pub address-spec : {M : Type 1} → statement M

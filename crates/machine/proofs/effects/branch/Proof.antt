@@ -1,7 +1,7 @@
 use borrow.Author.Needs.{needs}
 use Rattle.machine.proofs.effects.branch.Statement.{statement}
 use Rattle.machine.proofs.effects.branch.Tie as tie
-use Rattle.machine.specs.Rulings.{plus}
+use Rattle.arithmetic.specs.Rulings.{plus}
 use Rattle.words.proofs.Signed.{kept}
 
 pub branch-spec : {M : Type 1} → statement M

@@ -1,7 +1,7 @@
 use borrow.Author.Needs.{needs}
 use Rattle.machine.proofs.effects.compute.Statement.{statement}
 use Rattle.machine.proofs.effects.compute.Tie as tie
-use Rattle.machine.specs.Rulings.{plus}
+use Rattle.arithmetic.specs.Rulings.{plus}
 
 pub compute-spec : {M : Type 1} → statement M
 unfolding plus

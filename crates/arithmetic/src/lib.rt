@@ -3,7 +3,7 @@ ghost use mathlib.Core.Path.{_≡_};
 ghost use Prim.Native.Nat.{_<_, _≤_, _+_, _%_, _^_};
 ghost use lib.Signed.{ltZ, shrZ};
 ghost use lib.IntN.{pos, _+ℤ_, _-ℤ_};
-ghost use Rattle.machine.specs.Rulings.{sext, shifted, high, integer, bit, compared, minus, beyond};
+ghost use Rattle.arithmetic.specs.Rulings.{sext, shifted, high, integer, bit, compared, minus, beyond};
 use words::Comparison;
 use words::Shift;
 
@@ -24,7 +24,7 @@ const RANGE_SIGNED: i64 = RANGE as i64;
 const SIGN_WIDE: u64 = SIGN as u64;
 
 // The word of a whole number.
-pub(crate) fn sext_of(imm: i32) -> u32
+pub fn sext_of(imm: i32) -> u32
     ensures { λ r. ⌜ r ≡ sext imm ⌝ }
 {
     let lifted = imm as i64 + RANGE_SIGNED;
@@ -32,7 +32,7 @@ pub(crate) fn sext_of(imm: i32) -> u32
 }
 
 // Whether a is less than b as numbers in two's complement.
-pub(crate) fn less(a: u32, b: u32) -> bool
+pub fn less(a: u32, b: u32) -> bool
     ensures { λ r. ⌜ r ≡ ltZ (integer a) (integer b) ⌝ }
 {
     if a < SIGN {
@@ -43,7 +43,7 @@ pub(crate) fn less(a: u32, b: u32) -> bool
 }
 
 // The shift of x by the low five bits of n.
-pub(crate) fn shift(kind: Shift, x: u32, n: u32) -> u32
+pub fn shift(kind: Shift, x: u32, n: u32) -> u32
     ensures { λ r. ⌜ r ≡ shifted kind x n ⌝ }
 {
     let places = n % 32;
@@ -68,14 +68,14 @@ fn copying(x: u32, places: u32) -> u32
 }
 
 // The low 16 bits of x times 65,536.
-pub(crate) fn high_of(x: u32) -> u32
+pub fn high_of(x: u32) -> u32
     ensures { λ r. ⌜ r ≡ high x ⌝ }
 {
     (x % HALF_RANGE) * HALF_RANGE
 }
 
 // 1 where the comparison holds, else 0.
-pub(crate) fn compare(kind: Comparison, a: u32, b: u32) -> u32
+pub fn compare(kind: Comparison, a: u32, b: u32) -> u32
     ensures { λ r. ⌜ r ≡ compared kind a b ⌝ }
 {
     match kind {
@@ -95,21 +95,21 @@ fn flag(holds: bool) -> u32
 }
 
 // a less b, modulo 2^32.
-pub(crate) fn difference(a: u32, b: u32) -> u32
+pub fn difference(a: u32, b: u32) -> u32
     ensures { λ r. ⌜ r ≡ minus a b ⌝ }
 {
     std::num::wrapping_sub_u32(a, b)
 }
 
 // Whether the signed sum lies beyond the words. Both sides are lifted by 2^31, so the sum is lifted by 2^32.
-pub(crate) fn sum_beyond(a: u32, b: u32) -> bool
+pub fn sum_beyond(a: u32, b: u32) -> bool
     ensures { λ r. ⌜ r ≡ beyond (integer a +ℤ integer b) ⌝ }
 {
     apart(lift(a) + lift(b), RANGE)
 }
 
 // Whether the signed difference lies beyond the words. Both sides are lifted by 2^31.
-pub(crate) fn difference_beyond(a: u32, b: u32) -> bool
+pub fn difference_beyond(a: u32, b: u32) -> bool
     ensures { λ r. ⌜ r ≡ beyond (integer a -ℤ integer b) ⌝ }
 {
     apart(lift(a), lift(b))

@@ -2,10 +2,10 @@ use Prim.Native.Nat.{_-_, _^_}
 use borrow.Author.Needs.{needs}
 use native.Mathlib.Nat.{div-le-self}
 use native.Mathlib.Omega.{arith}
-use Rattle.machine.proofs.Integers.{integer-low, copied}
-use Rattle.machine.proofs.arithmetic.copying.Statement.{statement}
-use Rattle.machine.proofs.arithmetic.copying.Tie as tie
-use Rattle.machine.specs.Rulings.{sext}
+use Rattle.arithmetic.proofs.Integers.{integer-low, copied}
+use Rattle.arithmetic.proofs.copying.Statement.{statement}
+use Rattle.arithmetic.proofs.copying.Tie as tie
+use Rattle.arithmetic.specs.Rulings.{sext}
 
 pub copying-spec : {M : Type 1} → statement M
 unfolding sext

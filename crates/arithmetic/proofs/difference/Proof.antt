@@ -1,8 +1,8 @@
 use borrow.Author.Needs.{needs}
 use native.Mathlib.Omega.{arith}
-use Rattle.machine.proofs.arithmetic.difference.Statement.{statement}
-use Rattle.machine.proofs.arithmetic.difference.Tie as tie
-use Rattle.machine.specs.Rulings.{minus}
+use Rattle.arithmetic.proofs.difference.Statement.{statement}
+use Rattle.arithmetic.proofs.difference.Tie as tie
+use Rattle.arithmetic.specs.Rulings.{minus}
 
 pub difference-spec : {M : Type 1} → statement M
 unfolding minus

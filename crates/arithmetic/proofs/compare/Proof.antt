@@ -1,10 +1,10 @@
 use borrow.Author.Needs.{needs}
 use mathlib.Core.Bool.{Bool, not}
 use mathlib.Core.Path.{_∙_, ap, sym}
-use Rattle.machine.proofs.Integers.{at-most}
-use Rattle.machine.proofs.arithmetic.compare.Statement.{statement}
-use Rattle.machine.proofs.arithmetic.compare.Tie as tie
-use Rattle.machine.specs.Rulings.{satisfies, bit, integer}
+use Rattle.arithmetic.proofs.Integers.{at-most}
+use Rattle.arithmetic.proofs.compare.Statement.{statement}
+use Rattle.arithmetic.proofs.compare.Tie as tie
+use Rattle.arithmetic.specs.Rulings.{satisfies, bit, integer}
 
 pub compare-spec : {M : Type 1} → statement M
 unfolding satisfies

@@ -1,9 +1,9 @@
 use borrow.Author.Needs.{needs}
 use mathlib.Core.Path.{_∙_, ap}
-use Rattle.machine.proofs.Integers.{lifted-sum}
-use Rattle.machine.proofs.arithmetic.sum_beyond.Statement.{statement}
-use Rattle.machine.proofs.arithmetic.sum_beyond.Tie as tie
-use Rattle.machine.specs.Rulings.{beyond}
+use Rattle.arithmetic.proofs.Integers.{lifted-sum}
+use Rattle.arithmetic.proofs.sum_beyond.Statement.{statement}
+use Rattle.arithmetic.proofs.sum_beyond.Tie as tie
+use Rattle.arithmetic.specs.Rulings.{beyond}
 
 pub sum-beyond-spec : {M : Type 1} → statement M
 sum-beyond-spec =

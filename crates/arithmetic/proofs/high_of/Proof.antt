@@ -1,8 +1,8 @@
 use borrow.Author.Needs.{needs}
 use mathlib.Core.Path.{refl}
-use Rattle.machine.proofs.arithmetic.high_of.Statement.{statement}
-use Rattle.machine.proofs.arithmetic.high_of.Tie as tie
-use Rattle.machine.specs.Rulings.{high}
+use Rattle.arithmetic.proofs.high_of.Statement.{statement}
+use Rattle.arithmetic.proofs.high_of.Tie as tie
+use Rattle.arithmetic.specs.Rulings.{high}
 
 pub high-of-spec : {M : Type 1} → statement M
 unfolding high

@@ -11,7 +11,7 @@ use mir.Syntax.{w32, w64}
 use mir.Val.{Fits, SFits, toZ, ofZ}
 use mir.Facts.{toZ-ofZ}
 use Rattle.words.proofs.Signed.{kept, signed-low, signed-high, biased, biased-sum, difference, shortfall}
-use Rattle.machine.specs.Rulings.{integer, sext, beyond}
+use Rattle.arithmetic.specs.Rulings.{integer, sext, beyond}
 
 -- A word below 2 ^ 31 means itself, any other a number below nothing
 pub integer-low : (x : ℕ) → x < 2 ^ 31 → integer x ≡ pos x

@@ -1,7 +1,7 @@
 use borrow.Author.Needs.{needs}
-use Rattle.machine.proofs.arithmetic.shift.Statement.{statement}
-use Rattle.machine.proofs.arithmetic.shift.Tie as tie
-use Rattle.machine.specs.Rulings.{shifted}
+use Rattle.arithmetic.proofs.shift.Statement.{statement}
+use Rattle.arithmetic.proofs.shift.Tie as tie
+use Rattle.arithmetic.specs.Rulings.{shifted}
 
 pub shift-spec : {M : Type 1} → statement M
 unfolding shifted
