@@ -32,7 +32,7 @@ pub fn sext_of(imm: i32) -> u32
 }
 
 // Whether a is less than b as numbers in two's complement.
-pub fn less(a: u32, b: u32) -> bool
+fn less(a: u32, b: u32) -> bool
     ensures { λ r. ⌜ r ≡ ltZ (integer a) (integer b) ⌝ }
 {
     if a < SIGN {
