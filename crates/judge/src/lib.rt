@@ -49,10 +49,9 @@ fn judge_in(card: &[u8], code: &mut [u32], words: &mut [u32], memory: &mut [u64]
 {
     let loaded = load(card, code, words, memory);
     let answer = loaded.answer;
-    let machine = loaded.machine;
     match answer {
         Answer::Refused(number) => Ruling::Refused(number),
-        Answer::Loaded => ruling_of(run(machine, code, words)),
+        Answer::Loaded => ruling_of(run(loaded.machine, code, words)),
     }
 }
 
@@ -61,10 +60,9 @@ fn ruling_of(outcome: Outcome) -> Ruling
     ensures { λ r. ⌜ answerOf r ≡ rulingOf (outcome .verdict) (outcome .machine .dpc) ⌝ }
 {
     let verdict = outcome.verdict;
-    let machine = outcome.machine;
     match verdict {
         Verdict::Refused(number) => Ruling::Refused(number),
-        Verdict::Accepted(steps) => Ruling::Accepted(steps, machine.dpc),
+        Verdict::Accepted(steps) => Ruling::Accepted(steps, outcome.machine.dpc),
         Verdict::Violation(number, step, dpc, word) => Ruling::Violation(number, step, dpc, word),
     }
 }

@@ -18,33 +18,36 @@ pub struct Line {
 pub(crate) fn refused(number: u32) -> Line
     ensures { λ r. ⌜ r ≡ lineOf (refusedText number) ⌝ }
 {
-    let a = put(empty(), b"refused ");
-    let b = put_decimal(a, number);
-    put(b, b"\n")
+    let mut line = empty();
+    line = put(line, b"refused ");
+    line = put_decimal(line, number);
+    put(line, b"\n")
 }
 
 pub(crate) fn accepted(steps: u32, dpc: u32) -> Line
     ensures { λ r. ⌜ r ≡ lineOf (acceptedText steps dpc) ⌝ }
 {
-    let a = put(empty(), b"accepted ");
-    let b = put_decimal(a, steps);
-    let c = put(b, b" next ");
-    let d = put_hex(c, dpc);
-    put(d, b"\n")
+    let mut line = empty();
+    line = put(line, b"accepted ");
+    line = put_decimal(line, steps);
+    line = put(line, b" next ");
+    line = put_hex(line, dpc);
+    put(line, b"\n")
 }
 
 pub(crate) fn violation(number: u32, step: u32, dpc: u32, word: u32) -> Line
     ensures { λ r. ⌜ r ≡ lineOf (violationText number step dpc word) ⌝ }
 {
-    let a = put(empty(), b"violation ");
-    let b = put_decimal(a, number);
-    let c = put(b, b" step ");
-    let d = put_decimal(c, step);
-    let e = put(d, b" at ");
-    let f = put_hex(e, dpc);
-    let g = put(f, b" word ");
-    let h = put_word(g, number, word);
-    put(h, b"\n")
+    let mut line = empty();
+    line = put(line, b"violation ");
+    line = put_decimal(line, number);
+    line = put(line, b" step ");
+    line = put_decimal(line, step);
+    line = put(line, b" at ");
+    line = put_hex(line, dpc);
+    line = put(line, b" word ");
+    line = put_word(line, number, word);
+    put(line, b"\n")
 }
 
 fn empty() -> Line

@@ -1,6 +1,6 @@
 -- Reading goes by the number: the number of an instruction leads to that instruction with the word's fields, and a number
 -- that no instruction has leads to 23.
-use Prim.Native.Nat.{ℕ, _+_, _^_, _≤_, _<_}
+use Prim.Native.Nat.{ℕ, _+_, _-_, _^_, _≤_, _<_}
 use native.Mathlib.Omega.{arith}
 use mathlib.Core.Path.{_≡_, refl, ap, ap₂, subst, _∙_}
 use mathlib.Core.Bool.{Bool, true, false, not, _&&_}
@@ -120,6 +120,10 @@ arithmetic-offset a = elim a [ Addo ↦ refl | Add ↦ refl | Subo ↦ refl | Su
 
 pub compare-offset : (k : Comparison) → compareRegisterNo k ≡ compareImmediateNo k + 0x10
 compare-offset k = elim k [ Sgr ↦ refl | Seq ↦ refl | Sge ↦ refl | Sls ↦ refl | Sne ↦ refl | Sle ↦ refl ]
+
+-- The number f of a register form, b, from that of the immediate form, a, which was read k below it
+pub moved : (k d : ℕ) {n a b f : ℕ} → k + d ≤ n → n ≡ f → a ≡ n - k → b ≡ a + k → f ≡ b
+moved k d l e ea eb = omega arith
 
 -- Numbers have six bits
 pub function-below : (w : ℕ) → function w < 64

@@ -13,13 +13,13 @@ mod reader;
 use maker::immediate;
 use maker::jump;
 use maker::register;
+use numbers::ARITHMETIC_REGISTER;
+use numbers::COMPARE_REGISTER;
+use numbers::SHIFT_REGISTER;
 use numbers::arithmetic_immediate;
-use numbers::arithmetic_register;
 use numbers::compare_immediate;
-use numbers::compare_register;
 use numbers::load;
 use numbers::shift_immediate;
-use numbers::shift_register;
 use numbers::store;
 
 // The instructions, grouped as tables 1.2 to 1.4 group them. A variant carries only the fields that its syntax uses, in
@@ -157,7 +157,13 @@ pub fn make(instruction: Instruction) -> Made
 {
     match instruction {
         Instruction::ShiftImmediate(s, rd, rs1, sa) => register(rs1, 0, rd, sa, shift_immediate(s)),
-        Instruction::ShiftRegister(s, rd, rs1, rs2) => register(rs1, rs2, rd, 0, shift_register(s)),
+        Instruction::ShiftRegister(s, rd, rs1, rs2) => register(
+            rs1,
+            rs2,
+            rd,
+            0,
+            shift_immediate(s) + SHIFT_REGISTER,
+        ),
         Instruction::Movs2i(rd, sa) => register(0, 0, rd, sa, 0x10),
         Instruction::Movi2s(sa, rs1) => register(rs1, 0, 0, sa, 0x11),
         Instruction::ArithmeticRegister(a, rd, rs1, rs2) => register(
@@ -165,7 +171,7 @@ pub fn make(instruction: Instruction) -> Made
             rs2,
             rd,
             0,
-            arithmetic_register(a),
+            arithmetic_immediate(a) + ARITHMETIC_REGISTER,
         ),
         Instruction::Lhg(rd, rs1) => register(rs1, 0, rd, 0, 0x27),
         Instruction::Clr(rd) => register(0, 0, rd, 0, 0x28),
@@ -174,7 +180,7 @@ pub fn make(instruction: Instruction) -> Made
             rs2,
             rd,
             0,
-            compare_register(k),
+            compare_immediate(k) + COMPARE_REGISTER,
         ),
         Instruction::Set(rd) => register(0, 0, rd, 0, 0x2F),
         Instruction::J(imm) => jump(0x02, imm),

@@ -1,16 +1,24 @@
-// The numbers of the groups' members: functions of the register forms, opcodes of the others.
+// The numbers of the groups' members: those of the immediate forms, and how far above them those of the register forms are,
+// which have the same order.
 ghost use mathlib.Core.Path.{_≡_};
 ghost use Prim.Native.Nat.{_<_};
-ghost use Rattle.words.specs.Words.{shiftImmediateNo, shiftRegisterNo, arithmeticRegisterNo, compareRegisterNo, arithmeticImmediateNo, compareImmediateNo, loadNo, storeNo};
+ghost use Rattle.words.specs.Words.{shiftImmediateNo, arithmeticImmediateNo, compareImmediateNo, loadNo, storeNo};
 use crate::Arithmetic;
 use crate::Comparison;
 use crate::LoadKind;
 use crate::Shift;
 use crate::StoreKind;
 
+// Sll is 04 and slli 00, addo 20 and addio 08, sgr 29 and sgri 19.
+pub(crate) const SHIFT_REGISTER: u32 = 0x04;
+
+pub(crate) const ARITHMETIC_REGISTER: u32 = 0x18;
+
+pub(crate) const COMPARE_REGISTER: u32 = 0x10;
+
 // slli, slai, srli, srai.
 pub(crate) fn shift_immediate(member: Shift) -> u32
-    ensures { λ r. ⌜ (r ≡ shiftImmediateNo member) × (r < 64) ⌝ }
+    ensures { λ r. ⌜ (r ≡ shiftImmediateNo member) × (r < 32) ⌝ }
 {
     match member {
         Shift::Sll => 0x00,
@@ -20,50 +28,9 @@ pub(crate) fn shift_immediate(member: Shift) -> u32
     }
 }
 
-// sll, sla, srl, sra.
-pub(crate) fn shift_register(member: Shift) -> u32
-    ensures { λ r. ⌜ (r ≡ shiftRegisterNo member) × (r < 64) ⌝ }
-{
-    match member {
-        Shift::Sll => 0x04,
-        Shift::Sla => 0x05,
-        Shift::Srl => 0x06,
-        Shift::Sra => 0x07,
-    }
-}
-
-// addo, add, subo, sub, and, or, xor.
-pub(crate) fn arithmetic_register(member: Arithmetic) -> u32
-    ensures { λ r. ⌜ (r ≡ arithmeticRegisterNo member) × (r < 64) ⌝ }
-{
-    match member {
-        Arithmetic::Addo => 0x20,
-        Arithmetic::Add => 0x21,
-        Arithmetic::Subo => 0x22,
-        Arithmetic::Sub => 0x23,
-        Arithmetic::And => 0x24,
-        Arithmetic::Or => 0x25,
-        Arithmetic::Xor => 0x26,
-    }
-}
-
-// sgr, seq, sge, sls, sne, sle.
-pub(crate) fn compare_register(member: Comparison) -> u32
-    ensures { λ r. ⌜ (r ≡ compareRegisterNo member) × (r < 64) ⌝ }
-{
-    match member {
-        Comparison::Sgr => 0x29,
-        Comparison::Seq => 0x2A,
-        Comparison::Sge => 0x2B,
-        Comparison::Sls => 0x2C,
-        Comparison::Sne => 0x2D,
-        Comparison::Sle => 0x2E,
-    }
-}
-
 // addio, addi, subio, subi, andi, ori, xori.
 pub(crate) fn arithmetic_immediate(member: Arithmetic) -> u32
-    ensures { λ r. ⌜ (r ≡ arithmeticImmediateNo member) × (r < 64) ⌝ }
+    ensures { λ r. ⌜ (r ≡ arithmeticImmediateNo member) × (r < 32) ⌝ }
 {
     match member {
         Arithmetic::Addo => 0x08,
@@ -78,7 +45,7 @@ pub(crate) fn arithmetic_immediate(member: Arithmetic) -> u32
 
 // sgri, seqi, sgei, slsi, snei, slei.
 pub(crate) fn compare_immediate(member: Comparison) -> u32
-    ensures { λ r. ⌜ (r ≡ compareImmediateNo member) × (r < 64) ⌝ }
+    ensures { λ r. ⌜ (r ≡ compareImmediateNo member) × (r < 32) ⌝ }
 {
     match member {
         Comparison::Sgr => 0x19,

@@ -3,7 +3,7 @@ ghost use mathlib.Core.Path.{_≡_};
 ghost use Prim.Native.Nat.{_≤_};
 ghost use mathlib.Core.Option.{some};
 ghost use Rattle.words.specs.Fields.{opcode};
-ghost use Rattle.words.specs.Words.{reading, readingAnswer};
+ghost use Rattle.words.specs.Words.{reading, readingAnswer, loadNo, storeNo};
 use crate::Instruction;
 use crate::LoadKind;
 use crate::Reading;
@@ -23,38 +23,34 @@ pub(crate) fn register(word: u32) -> Reading
 {
     let number = function_of(word);
     let f = fields_of(word);
-    match number {
-        0x00..=0x03 => Reading::Legal(Instruction::ShiftImmediate(
-            shift_of(number),
-            f.third,
-            f.rs1,
-            f.amount,
-        )),
-        0x04..=0x07 => Reading::Legal(Instruction::ShiftRegister(
+    let instruction = match number {
+        0x00..=0x03 => Instruction::ShiftImmediate(shift_of(number), f.third, f.rs1, f.amount),
+        0x04..=0x07 => Instruction::ShiftRegister(
             shift_of(number - 0x04),
             f.third,
             f.rs1,
             f.second,
-        )),
-        0x10 => Reading::Legal(Instruction::Movs2i(f.third, f.amount)),
-        0x11 => Reading::Legal(Instruction::Movi2s(f.amount, f.rs1)),
-        0x20..=0x26 => Reading::Legal(Instruction::ArithmeticRegister(
+        ),
+        0x10 => Instruction::Movs2i(f.third, f.amount),
+        0x11 => Instruction::Movi2s(f.amount, f.rs1),
+        0x20..=0x26 => Instruction::ArithmeticRegister(
             arithmetic_of(number - 0x18),
             f.third,
             f.rs1,
             f.second,
-        )),
-        0x27 => Reading::Legal(Instruction::Lhg(f.third, f.rs1)),
-        0x28 => Reading::Legal(Instruction::Clr(f.third)),
-        0x29..=0x2E => Reading::Legal(Instruction::CompareRegister(
+        ),
+        0x27 => Instruction::Lhg(f.third, f.rs1),
+        0x28 => Instruction::Clr(f.third),
+        0x29..=0x2E => Instruction::CompareRegister(
             comparison_of(number - 0x10),
             f.third,
             f.rs1,
             f.second,
-        )),
-        0x2F => Reading::Legal(Instruction::Set(f.third)),
-        _ => Reading::Illegal,
-    }
+        ),
+        0x2F => Instruction::Set(f.third),
+        _ => return Reading::Illegal,
+    };
+    Reading::Legal(instruction)
 }
 
 // j, jal.
@@ -123,25 +119,41 @@ pub(crate) fn memory(word: u32, number: u32) -> Reading
     requires { ⌜ (opcode word ≡ number) × (0x20 ≤ number) × (number ≤ 0x2B) ⌝ }
     ensures { λ r. ⌜ readingAnswer r ≡ reading word ⌝ }
 {
-    let f = fields_of(word);
-    let imm = immediate16_of(word);
     if number < 0x26 {
         match number {
-            0x20 => Reading::Legal(Instruction::Load(LoadKind::Lb, f.second, f.rs1, imm)),
-            0x21 => Reading::Legal(Instruction::Load(LoadKind::Lh, f.second, f.rs1, imm)),
-            0x23 => Reading::Legal(Instruction::Load(LoadKind::Lw, f.second, f.rs1, imm)),
-            0x24 => Reading::Legal(Instruction::Load(LoadKind::Lbu, f.second, f.rs1, imm)),
-            0x25 => Reading::Legal(Instruction::Load(LoadKind::Lhu, f.second, f.rs1, imm)),
+            0x20 => load(LoadKind::Lb, word),
+            0x21 => load(LoadKind::Lh, word),
+            0x23 => load(LoadKind::Lw, word),
+            0x24 => load(LoadKind::Lbu, word),
+            0x25 => load(LoadKind::Lhu, word),
             _ => Reading::Illegal,
         }
     } else {
         match number {
-            0x28 => Reading::Legal(Instruction::Store(StoreKind::Sb, f.rs1, imm, f.second)),
-            0x29 => Reading::Legal(Instruction::Store(StoreKind::Sh, f.rs1, imm, f.second)),
-            0x2B => Reading::Legal(Instruction::Store(StoreKind::Sw, f.rs1, imm, f.second)),
+            0x28 => store(StoreKind::Sb, word),
+            0x29 => store(StoreKind::Sh, word),
+            0x2B => store(StoreKind::Sw, word),
             _ => Reading::Illegal,
         }
     }
+}
+
+// A load, with the word's fields.
+fn load(kind: LoadKind, word: u32) -> Reading
+    requires { ⌜ opcode word ≡ loadNo kind ⌝ }
+    ensures { λ r. ⌜ readingAnswer r ≡ reading word ⌝ }
+{
+    let f = fields_of(word);
+    Reading::Legal(Instruction::Load(kind, f.second, f.rs1, immediate16_of(word)))
+}
+
+// A store, with the word's fields.
+fn store(kind: StoreKind, word: u32) -> Reading
+    requires { ⌜ opcode word ≡ storeNo kind ⌝ }
+    ensures { λ r. ⌜ readingAnswer r ≡ reading word ⌝ }
+{
+    let f = fields_of(word);
+    Reading::Legal(Instruction::Store(kind, f.rs1, immediate16_of(word), f.second))
 }
 
 // trap, rfe.
