@@ -41,7 +41,7 @@ fn one(card: &mut [u8]) -> bool {
     }
     let n = word(length[0], length[1], length[2], length[3]) as usize;
     if n < card.len() {
-        return answer(&mut card[..n], 0);
+        return answer(&mut card[0..n], 0);
     }
     let past = n - card.len();
     answer(card, past)
