@@ -7,6 +7,7 @@
  * The cards are those with the numbers I to I + N - 1 of the seed, I being 0 if
  * it is not given. Card i of a seed is always the same, whatever I and N are.
  */
+#include "explain.h"
 #include "isa.h"
 #include "program.h"
 #include "sim.h"
@@ -111,6 +112,23 @@ static void draw_violation(struct draft *draft)
     draft->card.limit = chance(draft, 75) ? between(draft, 200, 8000) : draw_limit(draft);
     if (chance(draft, 3))       /* mostly cheap, the violation comes first */
         draft->card.limit = STEP_LIMIT_MAX;
+}
+
+/* 21, 22, 25 or 26, early or late, by each origin that its address can have. */
+static void draw_origin(struct draft *draft)
+{
+    int brief = chance(draft, 25);
+    draft->other_percent = 0;
+    draft->keep_masked = chance(draft, 50);
+    draft->event = EVENT_NONE;
+    uint32_t code_words = brief ? between(draft, 2, 8) : between(draft, 36, 120);
+    uint32_t data_words = chance(draft, 8) ? 0 : between(draft, 1, 32);
+    draw_regions(draft, code_words, data_words);
+    draw_registers(draft);
+    draw_data(draft);
+    draw_traced(draft, brief);
+    if (chance(draft, 20))
+        fill_unused_fields(draft);
 }
 
 static void draw_junk_fields(struct draft *draft)
@@ -310,17 +328,21 @@ static void mutate_card(struct draft *draft, struct card_bytes *bytes)
 
 /* ---- cards --------------------------------------------------------------- */
 
-enum { TEMPERAMENTS = 7 };
-static const char letters[TEMPERAMENTS + 1] = "abcdefg";
-static const unsigned weights[TEMPERAMENTS] = {22, 22, 20, 13, 8, 8, 7};        /* sum 100 */
+enum { TEMPERAMENTS = 8 };
+static const char letters[TEMPERAMENTS + 1] = "abcdefgh";
+
+/* Of 100 cards. The order counts: a share that is cut in two leaves the cards of all others as they are. */
+static const struct { char letter; unsigned weight; } shares[TEMPERAMENTS] = {
+    {'a', 14}, {'h', 8}, {'b', 22}, {'c', 20}, {'d', 13}, {'e', 8}, {'f', 8}, {'g', 7}
+};
 
 static char draw_letter(struct draft *draft)
 {
     uint32_t dice = below(draft, 100);
     for (int i = 0; i < TEMPERAMENTS; i++) {
-        if (dice < weights[i])
-            return letters[i];
-        dice -= weights[i];
+        if (dice < shares[i].weight)
+            return shares[i].letter;
+        dice -= shares[i].weight;
     }
     return letters[0];
 }
@@ -345,6 +367,7 @@ static char make_card(uint64_t seed, uint64_t i, char only, struct card_bytes *b
     case 'd': draw_short(&draft); break;
     case 'e': if (chance(&draft, 60)) draw_short(&draft); else draw_full_set(&draft); break;
     case 'f': draw_junk_fields(&draft); break;
+    case 'h': draw_origin(&draft); break;
     default: draw_no_plan(&draft); break;
     }
     bytes->length = card_write(&draft.card, bytes->at);
@@ -381,6 +404,23 @@ static int write_bundle(struct choice choice)
 
 enum { LATE_STEP = 100 };
 
+/*
+ * The explanations there can be, by violation. No 21 ran on, since PC' + 4 is a
+ * multiple of 4 where PC' is; nor is one by jr r0, or by jr to a link.
+ */
+static const char *const explanations[] = {
+    "21 dpc from card", "21 dpc from jal", "21 dpc from beqz", "21 dpc from bnez",
+    "21 dpc from jr, register from card", "21 dpc from jr, register from lw", "21 dpc from jr, register from sum",
+    "22 dpc from card", "22 dpc ran on", "22 dpc from jal", "22 dpc from beqz", "22 dpc from bnez",
+    "22 dpc from jr, register from card", "22 dpc from jr, register from zero",
+    "22 dpc from jr, register from lw", "22 dpc from jr, register from jal", "22 dpc from jr, register from sum",
+    "25 register from card", "25 register from zero", "25 register from lw", "25 register from jal",
+    "25 register from sum",
+    "26 register from card", "26 register from zero", "26 register from lw", "26 register from jal",
+    "26 register from sum",
+};
+enum { EXPLANATIONS = sizeof explanations / sizeof explanations[0] };
+
 struct counts {
     uint64_t temperament[TEMPERAMENTS];
     uint64_t verdict[CHECK_MODE + 1];           /* by refusal or violation, 0 accepted */
@@ -390,6 +430,12 @@ struct counts {
     uint64_t masked_steps;
     uint64_t checker_steps, vamp_steps;
     uint64_t late_violations;                   /* at LATE_STEP or later */
+    uint64_t explained[EXPLANATIONS];
+    uint64_t explained_late[EXPLANATIONS];      /* of them at LATE_STEP or later */
+    uint64_t explained_otherwise;               /* as no entry of the list says */
+    uint64_t in_slot;                           /* the named transfer stands in a delay slot */
+    uint64_t slot_transfers;                    /* its own delay slot has a taken transfer */
+    uint64_t slot_writes;                       /* the delay slot of jr writes its register */
     uint64_t refused;
     uint64_t disagreements;
     uint64_t checker_runs[INSTRUCTION_NUMBERS]; /* by instruction number */
@@ -434,6 +480,67 @@ static void count_checked_run(struct checker *checker, struct vamp *vamp, struct
     counts->late_violations += answer != CHECK_OK && steps >= LATE_STEP;
 }
 
+/* A sum is any word that writes a register, but lw and jal. */
+static const char *origin_name(struct origin origin, const struct step_log *log)
+{
+    if (origin.kind != FROM_STEP)
+        return origin.kind == FROM_ZERO ? "zero" : "card";
+    switch (instruction_number(log->steps[origin.step].word)) {
+    case OP_LW: return "lw";
+    case OP_JAL: return "jal";
+    default: return "sum";
+    }
+}
+
+/* What the list calls an explanation. */
+enum { KIND_TEXT = 64 };
+static void kind_text(int violation, const struct because *because, const struct step_log *log, char text[KIND_TEXT])
+{
+    const char *origin = origin_name(because->origin, log);
+    switch (because->kind) {
+    case BECAUSE_CARD: snprintf(text, KIND_TEXT, "%d dpc from card", violation); break;
+    case BECAUSE_RAN_ON: snprintf(text, KIND_TEXT, "%d dpc ran on", violation); break;
+    case BECAUSE_TRANSFER:
+        snprintf(text, KIND_TEXT, "%d dpc from %s", violation, instruction_of(log->steps[because->step].word)->name);
+        break;
+    case BECAUSE_JR: snprintf(text, KIND_TEXT, "%d dpc from jr, register from %s", violation, origin); break;
+    default: snprintf(text, KIND_TEXT, "%d register from %s", violation, origin); break;
+    }
+}
+
+/* What stands around a named transfer, whose delay slot was the last step. */
+static void count_slots(const struct because *because, const struct step_log *log, struct counts *counts)
+{
+    const struct logged *slot = &log->steps[because->step + 1];
+    if (because->kind != BECAUSE_TRANSFER && because->kind != BECAUSE_JR)
+        return;
+    counts->in_slot += because->step > 0 && log->steps[because->step - 1].transferred;
+    counts->slot_transfers += slot->transferred;
+    counts->slot_writes += because->kind == BECAUSE_JR && because->reg != 0 && slot->written == because->reg;
+}
+
+static void count_explanation(const struct card *card, struct counts *counts)
+{
+    static struct checker checker;
+    static struct step_log log;
+    char text[KIND_TEXT];
+    checker_start(&checker, card);
+    struct check_result result = logged_run(&checker, card->limit, &log);
+    struct because because = explain(&result, &log);
+    if (because.kind == BECAUSE_NONE)
+        return;
+    count_slots(&because, &log, counts);
+    kind_text(result.answer, &because, &log, text);
+    for (int i = 0; i < EXPLANATIONS; i++) {
+        if (strcmp(text, explanations[i]) == 0) {
+            counts->explained[i]++;
+            counts->explained_late[i] += result.steps >= LATE_STEP;
+            return;
+        }
+    }
+    counts->explained_otherwise++;
+}
+
 static void count_vamp_run(struct vamp *vamp, uint32_t limit, struct counts *counts)
 {
     struct vamp_answer last = {VAMP_STEPPED, 0};
@@ -472,6 +579,7 @@ static void count_card(const struct card_bytes *bytes, struct counts *counts)
     checker_start(&checker, &card);
     vamp_start(&vamp, &card);
     count_checked_run(&checker, &vamp, counts);
+    count_explanation(&card, counts);
     vamp_start(&vamp, &card);
     count_vamp_run(&vamp, card.limit, counts);
 }
@@ -487,6 +595,17 @@ static void print_instructions(const struct counts *counts)
     }
 }
 
+static void print_explanations(const struct counts *counts)
+{
+    for (int i = 0; i < EXPLANATIONS; i++)
+        printf("explained %s: at step %d or later %" PRIu64 ", all %" PRIu64 "\n", explanations[i], LATE_STEP,
+               counts->explained_late[i], counts->explained[i]);
+    printf("explained by a transfer in a delay slot %" PRIu64 "\n", counts->in_slot);
+    printf("explained by a transfer with one in its delay slot %" PRIu64 "\n", counts->slot_transfers);
+    printf("explained by a jr whose delay slot writes its register %" PRIu64 "\n", counts->slot_writes);
+    printf("explained otherwise %" PRIu64 "\n", counts->explained_otherwise);
+}
+
 static void print_counts(const struct counts *counts, uint64_t cards)
 {
     uint64_t run = cards - counts->refused;
@@ -499,6 +618,7 @@ static void print_counts(const struct counts *counts, uint64_t cards)
     for (int i = CHECK_DPC_ALIGNMENT; i <= CHECK_MODE; i++)
         printf("violation %d %" PRIu64 "\n", i, counts->verdict[i]);
     printf("violations at step %d or later %" PRIu64 "\n", LATE_STEP, counts->late_violations);
+    print_explanations(counts);
     printf("vamp stepped to the limit %" PRIu64 "\n", counts->vamp_answer[VAMP_STEPPED]);
     printf("vamp 31 %" PRIu64 "\n", counts->vamp_answer[VAMP_INTERRUPT]);
     for (int bit = 0; bit < 32; bit++)
@@ -524,14 +644,14 @@ static int print_stats(struct choice choice)
         count_card(&bytes, &counts);
     }
     print_counts(&counts, choice.count);
-    return counts.disagreements == 0 ? 0 : 1;
+    return counts.disagreements == 0 && counts.explained_otherwise == 0 ? 0 : 1;
 }
 
 /* ---- the call ------------------------------------------------------------ */
 
 static int usage(void)
 {
-    fprintf(stderr, "usage: cards [--only a|b|c|d|e|f|g] [--from I] [--stats] SEED N\n");
+    fprintf(stderr, "usage: cards [--only a|b|c|d|e|f|g|h] [--from I] [--stats] SEED N\n");
     return EXIT_TROUBLE;
 }
 

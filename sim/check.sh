@@ -62,6 +62,11 @@ verdict() { # NAME EXPECTED, for the card as it stands
     same "$1" "$2" "$(./simulate verdict "$work/card")"
 }
 
+explained() { # NAME EXPECTED, the second line too, for the card as it stands
+    card "$work/card"
+    same "$1" "$2" "$(./simulate explain "$work/card")"
+}
+
 # 64-bit FNV-1a over words; shell arithmetic is modulo 2^64.
 digest() {
     local h=$((0xcbf29ce484222325)) v i
@@ -86,6 +91,17 @@ code=(0x2401FFFC 0x8C220008 0)
 verdict "the whole case" "violation 26 step 1 at 00000004 word 8C220008"
 same "the whole case, from standard input" "violation 26 step 1 at 00000004 word 8C220008" \
     "$(./simulate verdict < "$work/card")"
+
+explained "the whole case, explained" "violation 26 step 1 at 00000004 word 8C220008
+because r1 from step 0 at 00000000 word 2401FFFC"
+cp "$work/card" "$work/whole"
+for i in {0..4095}; do memory[i]=0; done
+memory[0]=0x2401FFFC memory[1]=0x8C220008
+# The VAMP machine loads the word at 4 and goes on over zero words to its limit.
+asm=$(digest 1 26 4 8 0 0xFFFFFFFC "${gpr[@]:2}" "${spr[@]}" "${code[@]}" "${data[@]}")
+vamp=$(digest 10 0 0 0 40 44 0 0xFFFFFFFC 0x8C220008 "${gpr[@]:3}" "${spr[@]}" "${memory[@]}")
+whole_line="violation 26 step 1 at 00000004 word 8C220008 asm $asm vamp $vamp \
+because r1 from step 0 at 00000000 word 2401FFFC"
 
 # ---- a loop that sums three words --------------------------------------------
 #  0 addi r1,r0,256    4 addi r2,r0,3
@@ -120,7 +136,6 @@ $(state)
 word 0000010C 0000003C"
 same "sum loop, dump" "$expected" "$(./simulate dump "$work/card")"
 
-memory=()
 for i in {0..4095}; do memory[i]=0; done
 for i in "${!code[@]}"; do memory[i]=${code[i]}; done
 memory[64]=10 memory[65]=20 memory[66]=30 memory[67]=60
@@ -209,6 +224,48 @@ verdict "lw at 16384" "violation 26 step 0 at 00000000 word 8C024000"
 same "lw at 16384, VAMP" "vamp stopped 32 cause 00000000 step 0" \
     "$(./simulate dump "$work/card" | grep vamp)"
 
+# ---- explanations -------------------------------------------------------------
+# The sum loop with its address moved on before each load: 5 steps a round, from 104 to 10C, and 110 is outside.
+#  0 addi r1,r0,256    4 addi r2,r0,9     8 addi r1,r1,4
+#  C lw r3,r1(0)      10 addi r2,r2,-1   14 bnez r2,-16     18 nop
+# Rounds start at the steps 2, 7, 12 and 17; the load of the fourth is step 18.
+
+fresh
+code=(0x24010100 0x24020009 0x24210004 0x8C230000 0x2442FFFF 0x1440FFF0 0) limit=100
+explained "a load past the data, in a loop" "violation 26 step 18 at 0000000C word 8C230000
+because r1 from step 17 at 00000008 word 24210004"
+
+# 100 jal 8           104 nop (delay slot)     108 nop
+# 10C jr r31          110 addi r31,r31,2 (delay slot): the link 108 is good, and R31 is 10A for the second jr.
+# Order: 100 104 10C 110 108 10C 110, then 10A.
+
+fresh
+code_start=256 data_start=0 dpc=256 pc=260
+code=(0x0C000008 0 0 0x5BE00000 0x27FF0002)
+explained "jr by a link that its delay slot changed" "violation 21 step 7 at 0000010A word -
+because dpc from step 5 at 0000010C word 5BE00000, r31 from step 3 at 00000110 word 27FF0002"
+fresh
+code=(0x58200000 0x24210004) gpr[1]=0x1234
+explained "jr by a register of the card" "violation 22 step 2 at 00001234 word -
+because dpc from step 0 at 00000000 word 58200000, r1 from card"
+fresh
+code=(0 0)
+explained "past the end of the code" "violation 22 step 2 at 00000008 word -
+because dpc ran on"
+limit=2
+explained "accepted, explained" "accepted 2 next 00000008"
+fresh
+code=(0x00200411) gpr[1]=1
+explained "27, explained" "violation 27 step 0 at 00000000 word 00200411"
+limit=1000001
+explained "refused, explained" "refused 12"
+same "explanations of two cards and of standard input" "refused 12
+violation 26 step 1 at 00000004 word 8C220008
+because r1 from step 0 at 00000000 word 2401FFFC
+violation 26 step 1 at 00000004 word 8C220008
+because r1 from step 0 at 00000000 word 2401FFFC" \
+    "$(./simulate explain "$work/card" "$work/whole"; ./simulate explain < "$work/whole")"
+
 # ---- refusals -----------------------------------------------------------------
 
 fresh; code=(0); limit=1000001
@@ -226,14 +283,15 @@ same "291 bytes" "refused 2" "$(./simulate dump "$work/short")"
 # ---- a bundle -----------------------------------------------------------------
 
 {
-    for name in sum short over; do
+    for name in sum short over whole; do
         printf '%b' "$(le32 "$(wc -c < "$work/$name")")"
         cat "$work/$name"
     done
 } > "$work/bundle"
-same "a bundle of three cards, with digests" "$sum_line
+same "a bundle of four cards, with digests and an explanation" "$sum_line
 refused 2
-$over_line" "$(./simulate bundle "$work/bundle")"
+$over_line
+$whole_line" "$(./simulate bundle "$work/bundle")"
 
 # ---- random cards -------------------------------------------------------------
 
@@ -252,6 +310,10 @@ if ./cards --stats 7 4000 > "$work/stats"; then good=1; else good=0; fi
 report "the two machines agree on every accepted step of 4,000 cards" $good
 same "every verdict and VAMP answer occurs" "" \
     "$(grep -E '^(refused|accepted|violation|vamp).* 0$' "$work/stats")"
+same "every explanation occurs" "" "$(grep -E '^explained .*( all|slot|register) 0$' "$work/stats")"
+same "every explanation of a step occurs late" "21 dpc from card
+22 dpc from card" \
+    "$(./cards --only h --stats 7 4000 | sed -n 's/^explained \(.*\): at step 100 or later 0,.*/\1/p')"
 for bit in 1 2 5 6; do grep -q "^vamp 31 cause bit $bit " "$work/stats" || report "cause bit $bit occurs" 0; done
 
 if [ $failures = 0 ]; then echo "all good"; exit 0; fi

@@ -270,7 +270,8 @@ static unsigned scratch(struct draft *draft)
 {
     if (chance(draft, 50))
         return between(draft, R_SCRATCH_LOW, R_SCRATCH_LOW_END);
-    return between(draft, R_SCRATCH_HIGH, R_SCRATCH_HIGH_END);
+    unsigned reg = between(draft, R_SCRATCH_HIGH, R_SCRATCH_HIGH_END);
+    return reg == draft->kept ? R_SCRATCH_LOW : reg;
 }
 
 static unsigned destination(struct draft *draft)
@@ -1126,6 +1127,292 @@ void draw_tiny_loop(struct draft *draft)
     case 1: put_code(draft, 0, jump("jal", 0)); break;
     default: put_code(draft, 0, jump_register("jr", R_ADDRESS)); break;
     }
+}
+
+/* ---- bad addresses of a chosen origin ------------------------------------ */
+
+enum { R_TRACED = R_SCRATCH_HIGH_END }; /* the register of the bad address, but for R0 and R31 */
+
+/* What the register of a bad address has its value from. */
+enum maker { BY_CARD, BY_ZERO, BY_SUM, BY_TEST, BY_LOAD, BY_LINK, MAKERS };
+
+struct trace {
+    enum maker maker;
+    int early;                  /* the register is written before the program waits */
+    uint32_t rounds;            /* of the loop in which it waits; 0 for a brief program */
+    unsigned reg;
+    uint32_t value;             /* of the register */
+};
+
+/* Puts the value in R_TRACED by way of a data word. */
+static void emit_loaded(struct draft *draft, uint32_t word)
+{
+    int32_t place = (int32_t)(WORD_BYTES * below(draft, draft->card.data_words));
+    emit_constant(draft, R_VALUE, word);
+    emit(draft, immediate("sw", R_VALUE, R_DATA, place));
+    emit(draft, immediate("lw", R_TRACED, R_DATA, place));
+}
+
+/* Puts in R_TRACED the value that it has, by any word that can. */
+static void emit_again(struct draft *draft)
+{
+    static const char *const sums[] = {"add", "sub"};
+    static const char *const shifts[] = {"slli", "srli"};
+    static const char *const immediates[] = {"addi", "ori", "xori"};
+    switch (below(draft, 5)) {
+    case 0: emit(draft, three(sums[below(draft, 2)], R_TRACED, R_TRACED, R_ZERO)); break;
+    case 1: emit(draft, made(shifts[below(draft, 2)], R_TRACED, R_TRACED, 0, 0, 0)); break;
+    case 2: emit(draft, immediate(immediates[below(draft, 3)], R_TRACED, R_TRACED, 0)); break;
+    case 3: emit(draft, immediate("andi", R_TRACED, R_TRACED, -1)); break;
+    default:
+        emit(draft, to_special(SPR_RM, R_TRACED));
+        emit(draft, made("movs2i", R_TRACED, 0, 0, SPR_RM, 0));
+        break;
+    }
+}
+
+/* Puts 0 or 1 in R_TRACED by a comparison of a register with itself; answers which. */
+static uint32_t emit_test(struct draft *draft, int one)
+{
+    unsigned reg = source(draft);
+    const char *other = chance(draft, 50) ? "sne" : "sgr";
+    emit(draft, three(one ? "sge" : other, R_TRACED, reg, reg));
+    return one ? 1 : 0;
+}
+
+/* The words that write the register, if it is not the card's. */
+static void emit_maker(struct draft *draft, struct trace *trace)
+{
+    switch (trace->maker) {
+    case BY_SUM:
+        emit_constant(draft, R_TRACED, trace->value);
+        if (chance(draft, 60))
+            emit_again(draft);
+        break;
+    case BY_TEST:
+        trace->value = emit_test(draft, trace->value & 1);
+        break;
+    case BY_LOAD:
+        emit_loaded(draft, trace->value);
+        break;
+    case BY_LINK:
+        trace->value = address_of(draft, draft->at + 2);
+        emit(draft, jump("jal", WORD_BYTES));
+        emit_slot(draft);
+        break;
+    default:
+        break;
+    }
+}
+
+/* A word that reads the register at most, and goes on at the next. */
+static uint32_t quiet_word(struct draft *draft, unsigned reg)
+{
+    int32_t imm = any_imm16(draft);
+    switch (below(draft, 7)) {
+    case 0: return safe_access(draft, instruction_named("sw"));
+    case 1: return draft->card.data_words == 0 ? nop : immediate("sw", reg, R_DATA, 0);
+    case 2: return to_special(SPR_RM, reg);
+    case 3: return safe_to_special(draft);
+    case 4: return immediate("addi", R_ZERO, source(draft), imm);
+    case 5: return branch("bnez", R_ZERO, imm);
+    default: return branch("beqz", R_ZERO, WORD_BYTES);
+    }
+}
+
+/* A loop of single words, so that what comes is late. */
+static void emit_wait(struct draft *draft, uint32_t rounds)
+{
+    if (rounds == 0)
+        return;
+    emit(draft, immediate("addi", R_LOOP, R_ZERO, (int32_t)rounds));
+    uint32_t top = draft->at;
+    for (uint32_t i = between(draft, 0, 4); i > 0; i--)
+        emit(draft, simple_word(draft));
+    emit(draft, immediate("addi", R_LOOP, R_LOOP, -1));
+    emit(draft, branch("bnez", R_LOOP, distance(draft->at, top)));
+    emit_slot(draft);
+    emit_items(draft, LEVEL_MAIN, first_counter[LEVEL_MAIN], below(draft, 4));
+}
+
+/* All that comes before the use of the register. */
+static void emit_trace(struct draft *draft, struct trace *trace)
+{
+    if (trace->maker == BY_ZERO || trace->maker == BY_LINK)
+        trace->reg = trace->maker == BY_ZERO ? R_ZERO : LINK_REGISTER;
+    if (trace->maker == BY_ZERO)
+        trace->value = 0;
+    if (trace->maker == BY_CARD)
+        draft->card.regs.gpr[R_TRACED] = trace->value;
+    if (trace->early)
+        emit_maker(draft, trace);
+    emit_wait(draft, trace->rounds);
+    if (!trace->early)
+        emit_maker(draft, trace);
+    for (uint32_t i = trace->rounds == 0 ? 0 : below(draft, 4); i > 0; i--)
+        emit(draft, quiet_word(draft, trace->reg));
+}
+
+/* An immediate that leads from a base to a bad address. */
+static int32_t bad_imm(struct draft *draft, int aligned, uint32_t base)
+{
+    for (;;) {
+        int32_t imm = (int32_t)(bad_address(draft, aligned) - base);
+        if (fits_16(imm))
+            return imm;
+    }
+}
+
+/* 25 or 26. */
+static void emit_traced_access(struct draft *draft, int aligned, struct trace *trace)
+{
+    const char *name = chance(draft, 50) ? "lw" : "sw";
+    int32_t imm = any_imm16(draft);
+    trace->value = bad_address(draft, aligned) - (uint32_t)imm;
+    emit_trace(draft, trace);
+    if (trace->maker == BY_ZERO || trace->maker == BY_TEST || trace->maker == BY_LINK)
+        imm = bad_imm(draft, aligned, trace->value);
+    unsigned moved = chance(draft, 20) ? trace->reg : scratch(draft);
+    emit(draft, immediate(name, moved, trace->reg, imm));
+}
+
+/* The delay slot of a transfer to a bad target, whose register it may write. */
+static void emit_traced_slot(struct draft *draft, unsigned reg)
+{
+    switch (below(draft, 6)) {
+    case 0: emit(draft, immediate("addi", reg, reg, any_imm16(draft))); break;
+    case 1: emit(draft, branch("beqz", R_ZERO, any_imm16(draft))); break;
+    case 2: emit(draft, chance(draft, 50) ? jump("jal", WORD_BYTES) : jump_register("jr", reg)); break;
+    default: emit_slot(draft); break;
+    }
+}
+
+/* 21 or 22 by jr. */
+static void emit_traced_jr(struct draft *draft, int aligned, struct trace *trace)
+{
+    trace->value = trace->maker == BY_TEST ? 1 : bad_target(draft, aligned);
+    emit_trace(draft, trace);
+    if (chance(draft, 20))      /* jr stands in a delay slot itself */
+        emit(draft, branch("beqz", R_ZERO, WORD_BYTES));
+    emit(draft, jump_register("jr", trace->reg));
+    emit_traced_slot(draft, trace->reg);
+}
+
+/* 21 or 22 by an immediate. */
+static void emit_traced_branch(struct draft *draft, int aligned, struct trace *trace)
+{
+    int64_t imm;
+    trace->maker = BY_CARD;     /* for bnez, not zero */
+    trace->value = 1;
+    emit_trace(draft, trace);
+    if (chance(draft, 20))
+        emit(draft, branch("beqz", R_ZERO, WORD_BYTES));
+    do
+        imm = (int64_t)bad_target(draft, aligned) - address_of(draft, draft->at + 1);
+    while (!fits_16(imm));
+    switch (below(draft, 3)) {
+    case 0: emit(draft, jump("jal", (int32_t)imm)); break;
+    case 1: emit(draft, branch("beqz", R_ZERO, (int32_t)imm)); break;
+    default: emit(draft, branch("bnez", R_TRACED, (int32_t)imm)); break;
+    }
+    emit_traced_slot(draft, R_TRACED);
+}
+
+static void emit_up_to(struct draft *draft, uint32_t index)
+{
+    while (draft->at < index)
+        emit(draft, simple_word(draft));
+}
+
+/* 22 behind the last word. */
+static void emit_traced_end(struct draft *draft, struct trace *trace)
+{
+    trace->maker = BY_CARD;
+    trace->value = 1;
+    emit_trace(draft, trace);
+    emit_up_to(draft, draft->card.code_words - 2);
+    switch (below(draft, 6)) {
+    case 0: emit(draft, branch("bnez", R_ZERO, any_imm16(draft))); break;       /* not taken */
+    case 1: emit(draft, branch("beqz", R_TRACED, any_imm16(draft))); break;     /* not taken */
+    case 2: emit(draft, branch("beqz", R_ZERO, WORD_BYTES)); break;             /* taken, to the next word */
+    case 3: emit(draft, branch("bnez", R_TRACED, WORD_BYTES)); break;           /* the same */
+    default: emit_slot(draft); break;
+    }
+    emit_traced_slot(draft, R_TRACED);
+}
+
+/* 22 by jr to the link of a jal that is the last word but one. */
+static void emit_traced_return(struct draft *draft, struct trace *trace)
+{
+    trace->maker = BY_CARD;
+    emit(draft, branch("beqz", R_ZERO, distance(draft->at, draft->at + 4)));        /* over the return */
+    emit_slot(draft);
+    uint32_t entry = draft->at;
+    emit(draft, jump_register("jr", LINK_REGISTER));
+    emit_traced_slot(draft, LINK_REGISTER);
+    emit_trace(draft, trace);
+    emit_up_to(draft, draft->card.code_words - 2);
+    emit(draft, jump("jal", distance(draft->at, entry)));
+    emit_slot(draft);
+}
+
+static uint32_t draw_rounds(struct draft *draft)
+{
+    uint32_t dice = below(draft, 100);
+    if (dice < 70)
+        return between(draft, 1, 300);
+    return dice < 97 ? between(draft, 301, 4000) : between(draft, 4001, 32000);
+}
+
+static void emit_traced_event(struct draft *draft, enum event event, struct trace *trace)
+{
+    int aligned = event == EVENT_22 || event == EVENT_26;
+    if (event == EVENT_25 || event == EVENT_26) {
+        emit_traced_access(draft, aligned, trace);
+        return;
+    }
+    if (trace->maker == BY_ZERO && (!aligned || touches_code(draft, 0)))
+        trace->maker = BY_SUM;  /* 0 is no bad target */
+    if (trace->maker == BY_TEST && aligned)
+        trace->maker = BY_SUM;  /* 1 is a bad target for its last bits */
+    switch (below(draft, aligned ? 10 : 8)) {
+    case 0: case 1: case 2: case 3:
+        emit_traced_branch(draft, aligned, trace);
+        break;
+    case 8:
+        emit_traced_end(draft, trace);
+        break;
+    case 9:
+        emit_traced_return(draft, trace);
+        break;
+    default:
+        if (trace->maker == BY_LINK)
+            trace->maker = BY_LOAD;     /* the link here is a good target */
+        emit_traced_jr(draft, aligned, trace);
+        break;
+    }
+}
+
+void draw_traced(struct draft *draft, int brief)
+{
+    static const enum event events[] = {EVENT_21, EVENT_22, EVENT_25, EVENT_26};
+    enum { TRACE_ROOM = 24 };   /* words of all parts but the items */
+    enum event event = events[below(draft, 4)];
+    struct trace trace = {(enum maker)below(draft, MAKERS), 0, 0, R_TRACED, 0};
+
+    draft->at = 0;
+    draft->reserve = TRACE_ROOM;
+    draft->kept = R_TRACED;
+    draft->card.regs.gpr[R_DATA] = draft->card.data_start;
+    if (!brief) {
+        trace.rounds = draw_rounds(draft);
+        trace.early = trace.maker != BY_LINK && chance(draft, 50);
+    }
+    if (draft->card.data_words == 0 && (trace.maker == BY_LOAD || trace.maker == BY_LINK))
+        trace.maker = BY_SUM;
+    emit_traced_event(draft, event, &trace);
+    pad_code(draft, 0);
+    draft->card.limit = 9 * trace.rounds + between(draft, 200, 4000);
 }
 
 void fill_unused_fields(struct draft *draft)

@@ -35,6 +35,7 @@ struct draft {
     unsigned other_percent;     /* share of words the checker does not run */
     int keep_masked;            /* SR bit 6 stays 0, so overflow is masked */
     enum event event;           /* still to be placed */
+    unsigned kept;              /* a register that the program's own words leave alone; 0 for none */
     struct subroutine subroutines[SUBROUTINES_MAX];
     int subroutine_count;
 };
@@ -57,6 +58,7 @@ uint32_t draw_limit(struct draft *draft);
 void draw_program(struct draft *draft);                     /* loops, calls, memory */
 void draw_random_words(struct draft *draft);                /* no plan at all */
 void draw_tiny_loop(struct draft *draft);                   /* one word for ever */
+void draw_traced(struct draft *draft, int brief);           /* 21, 22, 25 or 26 by a chosen origin; the limit too */
 
 /* Junk in every unused field of the code. */
 void fill_unused_fields(struct draft *draft);

@@ -1,8 +1,10 @@
 /*
  * Nivoplet reference simulator: the hand-checked cases of document 01, then
- * further cases for its rulings and its list of traps for the builder.
+ * further cases for its rulings and its list of traps for the builder, and
+ * for the explanations of document 02.
  */
 #include "selftest.h"
+#include "explain.h"
 #include "isa.h"
 #include "sim.h"
 
@@ -146,6 +148,16 @@ static int verdict_is(const struct card *card, const char *expected)
     return strcmp(text, expected) == 0;
 }
 
+/* The verdict line, and the second line or an empty text for none. */
+static int explained_is(const struct card *card, const char *verdict, const char *expected)
+{
+    char text[BECAUSE_TEXT];
+    because_of_card(card, text);
+    if (strcmp(text, expected) != 0)
+        printf("     got '%s', expected '%s'\n", text, expected);
+    return verdict_is(card, verdict) && strcmp(text, expected) == 0;
+}
+
 /* ---- the cases of document 01 -------------------------------------------- */
 
 static void document_words(void)
@@ -246,6 +258,8 @@ static void document_whole_case(void)
     set_code(&card, 1, 0x8C220008);
     check(verdict_is(&card, "violation 26 step 1 at 00000004 word 8C220008"), "the whole case");
     check(both_give(&card, 1, 0xFFFFFFFC), "the whole case: R1 is FFFFFFFC");
+    check(explained_is(&card, "violation 26 step 1 at 00000004 word 8C220008",
+                       "because r1 from step 0 at 00000000 word 2401FFFC"), "the whole case: its explanation");
 }
 
 /* ---- further cases: words ------------------------------------------------ */
@@ -739,6 +753,257 @@ static void more_refusals(void)
     check(strcmp(text, "refused 2") == 0, "an empty card is refused 2");
 }
 
+/* ---- further cases: explanations ----------------------------------------- */
+
+/* Words worked out by hand from the formats of document 01. */
+static const uint32_t nop = 0;
+static const uint32_t addi_r1_r0_2 = 0x24010002;
+static const uint32_t addi_r1_r1_0 = 0x24210000;
+static const uint32_t addi_r1_r1_4 = 0x24210004;
+static const uint32_t addi_r0_r0_7 = 0x24000007;
+static const uint32_t lw_r2_by_r1 = 0x8C220000;         /* lw r2,r1(0) */
+static const uint32_t sw_r2_by_r1 = 0xAC220000;         /* sw r1(0),r2 */
+static const uint32_t jr_r1 = 0x58200000;
+
+/* The plain card with these words. */
+static struct card card_with(const uint32_t *words, uint32_t count)
+{
+    struct card card = plain_card();
+    card.code_words = count;
+    for (uint32_t i = 0; i < count; i++)
+        set_code(&card, i, words[i]);
+    return card;
+}
+
+#define CODE(...) card_with((const uint32_t[]){__VA_ARGS__}, \
+                            sizeof (const uint32_t[]){__VA_ARGS__} / WORD_BYTES)
+
+static void explained_constants(void)
+{
+    struct card card = CODE(0x8C020001);
+    check(explained_is(&card, "violation 25 step 0 at 00000000 word 8C020001",
+                       "because r0 from zero"), "25 by R0: zero");
+    card = CODE(0xAC0200FC);
+    check(explained_is(&card, "violation 26 step 0 at 00000000 word AC0200FC",
+                       "because r0 from zero"), "26 by R0: zero");
+    card = CODE(addi_r0_r0_7, 0x8C0200FC);
+    check(explained_is(&card, "violation 26 step 1 at 00000004 word 8C0200FC",
+                       "because r0 from zero"), "26 by R0 after a dropped write to it: zero");
+    card = CODE(lw_r2_by_r1);
+    card.regs.gpr[1] = 258;
+    check(explained_is(&card, "violation 25 step 0 at 00000000 word 8C220000",
+                       "because r1 from card"), "25 at step 0: card");
+    card = CODE(0x24020002, nop, sw_r2_by_r1);
+    card.regs.gpr[1] = 272;
+    check(explained_is(&card, "violation 26 step 2 at 00000008 word AC220000",
+                       "because r1 from card"), "26 by a register that only the card set: card");
+}
+
+/* Each writes R1 at step 1, and the access by R1 is step 3. lhgi leaves a multiple of 4: its case is below. */
+static void explained_writers(void)
+{
+    /* R3 is 2, R4 is `other`; R1 becomes 1 or 2. */
+    static const struct { const char *name; uint32_t word, other; } list[] = {
+        {"lw", 0x8C010100, 0}, {"addi", 0x24610000, 0}, {"andi", 0x30610003, 0}, {"ori", 0x34610002, 0},
+        {"xori", 0x38610003, 0}, {"movs2i", 0x00000810, 0}, {"add", 0x00640821, 0}, {"sub", 0x00640823, 1},
+        {"slli", 0x00600800, 0}, {"srli", 0x00600842, 0}, {"sne", 0x0064082D, 1}, {"sgr", 0x00640829, 1},
+        {"sge", 0x0064082B, 2},
+    };
+    for (size_t i = 0; i < sizeof list / sizeof list[0]; i++) {
+        char name[80], because[BECAUSE_TEXT];
+        struct card card = CODE(nop, list[i].word, nop, sw_r2_by_r1);
+        card.regs.gpr[1] = 256;
+        card.regs.gpr[3] = 2;
+        card.regs.gpr[4] = list[i].other;
+        card.regs.spr[SPR_SR] = 2;
+        set_data(&card, 0, 2);
+        snprintf(name, sizeof name, "%s is a writer of its RD", list[i].name);
+        snprintf(because, sizeof because, "because r1 from step 1 at 00000004 word %08" PRIX32, list[i].word);
+        check(explained_is(&card, "violation 25 step 3 at 0000000C word AC220000", because), name);
+    }
+}
+
+static void explained_registers(void)
+{
+    struct card card = CODE(0x3C010001, lw_r2_by_r1);
+    check(explained_is(&card, "violation 26 step 1 at 00000004 word 8C220000",
+                       "because r1 from step 0 at 00000000 word 3C010001"), "lhgi is a writer of its RD");
+    card = CODE(addi_r1_r0_2, lw_r2_by_r1);
+    check(explained_is(&card, "violation 25 step 1 at 00000004 word 8C220000",
+                       "because r1 from step 0 at 00000000 word 24010002"), "25: the step just before");
+    /* lw r1,r0(256) loads 16384. */
+    card = CODE(0x8C010100, nop, lw_r2_by_r1);
+    set_data(&card, 0, 16384);
+    check(explained_is(&card, "violation 26 step 2 at 00000008 word 8C220000",
+                       "because r1 from step 0 at 00000000 word 8C010100"), "26: a load");
+    /* 0 jal 4, 4 nop, 8 lw r2,r31(0): R31 is 8. */
+    card = CODE(0x0C000004, nop, 0x8FE20000);
+    check(explained_is(&card, "violation 26 step 2 at 00000008 word 8FE20000",
+                       "because r31 from step 0 at 00000000 word 0C000004"), "26: the link of jal");
+    card = CODE(addi_r1_r0_2, addi_r1_r1_0, lw_r2_by_r1);
+    check(explained_is(&card, "violation 25 step 2 at 00000008 word 8C220000",
+                       "because r1 from step 1 at 00000004 word 24210000"), "a step that puts the same value counts");
+    card = CODE(addi_r1_r0_2, addi_r1_r1_4, addi_r1_r1_4, lw_r2_by_r1);
+    check(explained_is(&card, "violation 25 step 3 at 0000000C word 8C220000",
+                       "because r1 from step 2 at 00000008 word 24210004"), "of three writers the last");
+    /* sw r0(256),r1; movi2s SPR[6],r1 and bnez r0,4, with 1 where others have RD; addi r0,r0,7 */
+    card = CODE(addi_r1_r0_2, 0xAC010100, 0x00200991, 0x14010004, addi_r0_r0_7, lw_r2_by_r1);
+    check(explained_is(&card, "violation 25 step 5 at 00000014 word 8C220000",
+                       "because r1 from step 0 at 00000000 word 24010002"),
+          "a store, movi2s, a branch and a write to R0 write nothing");
+    /* lw r1,r1(0): the violating step writes R1 by its word, and is not taken. */
+    card = CODE(addi_r1_r0_2, 0x8C210000);
+    check(explained_is(&card, "violation 25 step 1 at 00000004 word 8C210000",
+                       "because r1 from step 0 at 00000000 word 24010002"), "the violating step counts for nothing");
+    /* 0 addi r1,r1,-4, 4 lw r2,r1(0), 8 beqz r0,-12, C nop: R1 is 268, 264, 260, 256, 252. */
+    card = CODE(0x2421FFFC, lw_r2_by_r1, 0x1000FFF4, nop);
+    card.regs.gpr[1] = 272;
+    card.limit = 100;
+    check(explained_is(&card, "violation 26 step 17 at 00000004 word 8C220000",
+                       "because r1 from step 16 at 00000000 word 2421FFFC"), "in the fifth round of a loop");
+    /* 0 beqz r2,8, 4 addi r1,r0,2, 8 addi r1,r1,4 is skipped, C lw r2,r1(0). */
+    card = CODE(0x10400008, addi_r1_r0_2, addi_r1_r1_4, lw_r2_by_r1);
+    check(explained_is(&card, "violation 25 step 2 at 0000000C word 8C220000",
+                       "because r1 from step 1 at 00000004 word 24010002"), "by the steps taken, not by the words' order");
+}
+
+static void explained_first_counters(void)
+{
+    struct card card = CODE(nop, nop);
+    card.regs.dpc = 6;
+    check(explained_is(&card, "violation 21 step 0 at 00000006 word -", "because dpc from card"), "21 at step 0: card");
+    card.regs.dpc = 8;
+    check(explained_is(&card, "violation 22 step 0 at 00000008 word -", "because dpc from card"), "22 at step 0: card");
+    card.regs.dpc = 0;
+    card.regs.pc = 6;
+    check(explained_is(&card, "violation 21 step 1 at 00000006 word -", "because dpc from card"), "21 at step 1: card");
+    /* jal at step 0 is a transfer, and not the reason at step 1. */
+    card = CODE(0x0C000006);
+    check(explained_is(&card, "violation 22 step 1 at 00000004 word -", "because dpc from card"), "22 at step 1: card");
+    card = CODE(0x0C000006, nop);
+    check(explained_is(&card, "violation 21 step 2 at 0000000A word -",
+                       "because dpc from step 0 at 00000000 word 0C000006"), "21 at step 2: jal at step 0");
+    card = CODE(nop, nop);
+    check(explained_is(&card, "violation 22 step 2 at 00000008 word -", "because dpc ran on"), "22 at step 2: ran on");
+    /* DPC 0, PC' 0: the word at 0 is run twice, and then the one at 4, which is outside. */
+    card = CODE(nop);
+    card.regs.pc = 0;
+    check(explained_is(&card, "violation 22 step 2 at 00000004 word -", "because dpc ran on"),
+          "22 at step 2 after counters that are no pair: ran on");
+}
+
+static void explained_transfers(void)
+{
+    struct card card = CODE(nop, 0x1000000A, nop);
+    check(explained_is(&card, "violation 21 step 3 at 00000012 word -",
+                       "because dpc from step 1 at 00000004 word 1000000A"), "21 by beqz");
+    card = CODE(nop, 0x14200100, nop);
+    card.regs.gpr[1] = 5;
+    check(explained_is(&card, "violation 22 step 3 at 00000108 word -",
+                       "because dpc from step 1 at 00000004 word 14200100"), "22 by bnez");
+    /* 0 jal 256, 4 beqz r0,0 in its delay slot: 4 is step 1, and step 2 is the target of jal. */
+    card = CODE(0x0C000100, 0x10000000, nop);
+    check(explained_is(&card, "violation 22 step 2 at 00000104 word -",
+                       "because dpc from step 0 at 00000000 word 0C000100"), "the first of two transfers");
+    /* 0 beqz r0,4, 4 jal 256 in its delay slot, 8 nop: PC' is 8 at step 1. */
+    card = CODE(0x10000004, 0x0C000100, nop);
+    check(explained_is(&card, "violation 22 step 3 at 00000108 word -",
+                       "because dpc from step 1 at 00000004 word 0C000100"), "the second of two transfers");
+    /* beqz r0,4 at the last word but one goes where the next word would be: outside. */
+    card = CODE(nop, 0x10000004, nop);
+    check(explained_is(&card, "violation 22 step 3 at 0000000C word -",
+                       "because dpc from step 1 at 00000004 word 10000004"), "a taken branch to the next word is a transfer");
+    card = CODE(nop, 0x14000004, nop);
+    check(explained_is(&card, "violation 22 step 3 at 0000000C word -", "because dpc ran on"), "a branch not taken: ran on");
+    card = CODE(nop, 0x10200100, nop);
+    card.regs.gpr[1] = 1;
+    check(explained_is(&card, "violation 22 step 3 at 0000000C word -", "because dpc ran on"), "beqz not taken: ran on");
+    /* A transfer at the last word: its delay slot is outside, and step k - 2 was a nop. */
+    card = CODE(nop, nop, 0x0C000100);
+    check(explained_is(&card, "violation 22 step 3 at 0000000C word -", "because dpc ran on"),
+          "a transfer at step k - 1 is not the reason: ran on");
+    card = CODE(nop, nop, nop);
+    check(explained_is(&card, "violation 22 step 3 at 0000000C word -", "because dpc ran on"), "past the end of the code: ran on");
+}
+
+static void explained_jr(void)
+{
+    struct card card = CODE(nop, jr_r1, nop);
+    card.regs.gpr[1] = 6;
+    check(explained_is(&card, "violation 21 step 3 at 00000006 word -",
+                       "because dpc from step 1 at 00000004 word 58200000, r1 from card"), "jr by a register of the card");
+    card = CODE(addi_r1_r0_2, nop, jr_r1, nop);
+    check(explained_is(&card, "violation 21 step 4 at 00000002 word -",
+                       "because dpc from step 2 at 00000008 word 58200000, r1 from step 0 at 00000000 word 24010002"),
+          "jr by a register that a step wrote");
+    /* The code lies at 16, so that 0 is outside. */
+    card = CODE(0x58000000, nop);
+    card.code_start = 16;
+    card.regs.dpc = 16;
+    card.regs.pc = 20;
+    check(explained_is(&card, "violation 22 step 2 at 00000000 word -",
+                       "because dpc from step 0 at 00000010 word 58000000, r0 from zero"), "jr r0: zero, at step 2");
+    /* jr r1 at step 1, addi r1,r1,4 in its delay slot at step 2. */
+    card = CODE(addi_r1_r0_2, jr_r1, addi_r1_r1_4);
+    check(explained_is(&card, "violation 21 step 3 at 00000002 word -",
+                       "because dpc from step 1 at 00000004 word 58200000, r1 from step 0 at 00000000 word 24010002"),
+          "jr whose delay slot writes its register: the writer before jr");
+    card = CODE(jr_r1, addi_r1_r1_4);
+    card.regs.gpr[1] = 3;
+    check(explained_is(&card, "violation 21 step 2 at 00000003 word -",
+                       "because dpc from step 0 at 00000000 word 58200000, r1 from card"),
+          "jr whose delay slot writes its register, which was the card's: card");
+    /* 0 beqz r0,8, 4 nop, 8 jr r31, C jal -8: jal at C goes to 8 with its delay slot at 10; R31 is 14, outside. */
+    card = CODE(0x10000008, nop, 0x5BE00000, 0x0FFFFFF8, nop);
+    check(explained_is(&card, "violation 22 step 6 at 00000014 word -",
+                       "because dpc from step 4 at 00000008 word 5BE00000, r31 from step 2 at 0000000C word 0FFFFFF8"),
+          "jr r31 by a link that is outside");
+}
+
+static void explained_none(void)
+{
+    struct card card = CODE(addi_r1_r0_2, 0x04000000);
+    check(explained_is(&card, "violation 23 step 1 at 00000004 word 04000000", ""), "23 has no explanation");
+    card = CODE(addi_r1_r0_2, 0x80220000);
+    check(explained_is(&card, "violation 24 step 1 at 00000004 word 80220000", ""), "24 has no explanation");
+    card = CODE(addi_r1_r0_2, 0x00200411);
+    check(explained_is(&card, "violation 27 step 1 at 00000004 word 00200411", ""), "27 has no explanation");
+    card = CODE(addi_r1_r0_2, lw_r2_by_r1);
+    card.limit = 1;
+    check(explained_is(&card, "accepted 1 next 00000004", ""), "an accepted run has no explanation");
+    card.limit = 0;
+    check(explained_is(&card, "accepted 0 next 00000000", ""), "limit 0 has no explanation");
+}
+
+static void explained_late(void)
+{
+    /* 0 bnez r1,-4, 4 addi r1,r1,-1, 8 lw r2,r1(0): two steps a round, R1 is FFFFFFFF at the end. */
+    struct card card = CODE(0x1420FFFC, 0x2421FFFF, lw_r2_by_r1);
+    card.regs.gpr[1] = 499998;
+    card.limit = STEP_LIMIT_MAX;
+    check(explained_is(&card, "violation 25 step 999998 at 00000008 word 8C220000",
+                       "because r1 from step 999997 at 00000004 word 2421FFFF"), "25 near the longest run's end");
+    /* The same with addi r3,r3,-1 in the place of the count: R1 is the card's over a million steps. */
+    card = CODE(0x1460FFFC, 0x2463FFFF, lw_r2_by_r1);
+    card.regs.gpr[1] = 257;
+    card.regs.gpr[3] = 499998;
+    card.limit = STEP_LIMIT_MAX;
+    check(explained_is(&card, "violation 25 step 999998 at 00000008 word 8C220000",
+                       "because r1 from card"), "25 near the longest run's end, by the card");
+}
+
+static void more_explanations(void)
+{
+    explained_constants();
+    explained_writers();
+    explained_registers();
+    explained_first_counters();
+    explained_transfers();
+    explained_jr();
+    explained_none();
+    explained_late();
+}
+
 int selftest(void)
 {
     cases = 0;
@@ -761,6 +1026,8 @@ int selftest(void)
     more_vamp_events();
     more_checked_tests();
     more_refusals();
+    puts("explanations");
+    more_explanations();
     printf("%d cases, %d failures\n", cases, failures);
     return failures;
 }

@@ -2,11 +2,13 @@
  * Nivoplet reference simulator: the program.
  *
  *   simulate verdict [FILE...]   one verdict line per card
+ *   simulate explain [FILE...]   the same and, where there is one, the explanation in a second line
  *   simulate dump [FILE]         both final states in full
  *   simulate bundle FILE         one line per card of a bundle, with digests
  *   simulate fast FILE           the same lines, with the checker of fast.c
  *   simulate selftest            the hand-checked cases
  */
+#include "explain.h"
 #include "fast.h"
 #include "selftest.h"
 #include "sim.h"
@@ -58,23 +60,42 @@ static struct bytes read_file(const char *name)
     return bytes;
 }
 
-/* ---- verdict ------------------------------------------------------------- */
+/* ---- verdict and explanation --------------------------------------------- */
+
+static void print_verdict_of(const struct bytes *card)
+{
+    char text[VERDICT_TEXT];
+    verdict_of_card(card->at, card->length, text);
+    puts(text);
+}
 
 static void print_verdict(const char *name)
 {
-    char text[VERDICT_TEXT];
     struct bytes bytes = read_file(name);
-    verdict_of_card(bytes.at, bytes.length, text);
-    puts(text);
+    print_verdict_of(&bytes);
     free(bytes.at);
 }
 
-static int mode_verdict(int count, char **names)
+static void print_explained(const char *name)
+{
+    static struct card card;
+    char text[BECAUSE_TEXT] = "";
+    struct bytes bytes = read_file(name);
+    print_verdict_of(&bytes);
+    if (card_load(bytes.at, bytes.length, &card) == REFUSED_NOT)
+        because_of_card(&card, text);
+    if (text[0] != '\0')
+        puts(text);
+    free(bytes.at);
+}
+
+/* Does the same with each file, or with standard input where none is named. */
+static int each_file(int count, char **names, void (*print)(const char *name))
 {
     if (count == 0)
-        print_verdict(NULL);
+        print(NULL);
     for (int i = 0; i < count; i++)
-        print_verdict(names[i]);
+        print(names[i]);
     return 0;
 }
 
@@ -227,7 +248,7 @@ static uint64_t digest_vamp(const struct both *both)
 static void print_digests(const uint8_t *card, size_t length, checked_run *run)
 {
     static struct both both;
-    char text[VERDICT_TEXT];
+    char text[VERDICT_TEXT], because[BECAUSE_TEXT];
     int refusal = run_both(card, length, run, &both);
     if (refusal != REFUSED_NOT) {
         verdict_refused(refusal, text);
@@ -235,8 +256,9 @@ static void print_digests(const uint8_t *card, size_t length, checked_run *run)
         return;
     }
     verdict_checked(&both.checked, text);
-    printf("%s asm %016" PRIX64 " vamp %016" PRIX64 "\n",
-           text, digest_assembler(&both), digest_vamp(&both));
+    because_of_card(&both.card, because);
+    printf("%s asm %016" PRIX64 " vamp %016" PRIX64 "%s%s\n", text, digest_assembler(&both),
+           digest_vamp(&both), because[0] == '\0' ? "" : " ", because);
 }
 
 /* A bundle is a sequence of (length in four bytes, that many card bytes). */
@@ -264,7 +286,8 @@ static int mode_bundle(const char *name, checked_run *run)
 
 static int usage(void)
 {
-    fprintf(stderr, "usage: simulate verdict [FILE...] | dump [FILE] | bundle FILE | fast FILE | selftest\n");
+    fprintf(stderr, "usage: simulate verdict [FILE...] | explain [FILE...] | dump [FILE] | bundle FILE | "
+                    "fast FILE | selftest\n");
     return EXIT_TROUBLE;
 }
 
@@ -274,7 +297,9 @@ int main(int argc, char **argv)
         return usage();
     const char *mode = argv[1];
     if (strcmp(mode, "verdict") == 0)
-        return mode_verdict(argc - 2, argv + 2);
+        return each_file(argc - 2, argv + 2, print_verdict);
+    if (strcmp(mode, "explain") == 0)
+        return each_file(argc - 2, argv + 2, print_explained);
     if (strcmp(mode, "dump") == 0 && argc <= 3)
         return mode_dump(argc == 3 ? argv[2] : NULL);
     if (strcmp(mode, "bundle") == 0 && argc == 3)

@@ -1,5 +1,5 @@
 #!/usr/bin/env python3
-"""What each call must be answered, by the simulators that are written from document 01 alone.
+"""What each call must be answered, by the simulators that are written from documents 01 and 02 alone.
 
     tools/call_answers.py <CALLS >ANSWERS
 
@@ -64,22 +64,34 @@ def make_answer(mnemonic, values, given):
     return [f"refused {CANNOT_BE_MADE}" if word is None else f"made x{word:08X}"]
 
 
-def checker_answer(single, given):
+def checker_answer(single, given, explained=False):
     n = given.numbers
     m = checker_expected.Machine(n["limit"], (n["code-start"], n["code-words"]), (n["data-start"], n["data-words"]),
                                  n["dpc"], n["pc"])
     m.gpr, m.spr = given.array("r"), given.array("spr")
     code, before = given.array("code")[:n["code-length"]], given.array("data")[:n["data-length"]]
-    data = list(before)
-    kind, *details = checker_expected.call(single, m, code, data)
+    data, steps = list(before), []
+    answer = checker_expected.call(single, m, code, data, steps)
     after = {**n, "dpc": m.dpc, "pc": m.pc}
-    return [answer_text(kind, *details), *changed_record(given, after, m.gpr, m.spr), *changed("data", before, data)]
+    text = answer_text(*answer) + (because(steps, answer, "x") if explained else "")
+    return [text, *changed_record(given, after, m.gpr, m.spr), *changed("data", before, data)]
 
 
 def answer_text(kind, number, step=None, dpc=None, word=None):
     if kind != "violation":
         return f"{kind} {number}"
     return f"violation {number} step {step} at x{dpc:08X} word x{word or 0:08X}"
+
+
+def because(steps, answer, mark):
+    """The explanation of a run's answer behind a blank, its words with the mark before them; nothing where there is none."""
+    def text(came):
+        if isinstance(came, str):
+            return came
+        return f"from step {came} at {mark}{steps[came].dpc:08X} word {mark}{steps[came].word:08X}"
+
+    parts = [f"{what} {text(came)}" for what, came in checker_expected.explanation(steps, *answer)]
+    return " because " + ", ".join(parts) if parts else ""
 
 
 def vamp_answer(single, given):
@@ -108,28 +120,31 @@ def load_answer(mnemonic, operands, given):
 
 
 def verdict(card):
-    """The verdict line of a card."""
+    """The verdict line of a card and, behind a blank, the second line where there is one."""
     arrays = {name: [0] * count for name, count in BUFFERS.items()}
     answer, f = card_expected.load(card, card_expected.BUFFERS, arrays)
     if answer[0] == "refused":
         return f"refused {answer[1]}"
     m = checker_expected.Machine(f["limit"], f["code"], f["data"], f["dpc"], f["pc"])
     m.gpr, m.spr = f["general"], f["special"]
-    kind, number, *details = checker_expected.run(m, arrays["code"], arrays["data"], m.limit)
-    if kind == "accepted":
-        return f"accepted {number} next {m.dpc:08X}"
-    step, dpc, word = details
-    return f"violation {number} step {step} at {dpc:08X} word " + ("-" if word is None else f"{word:08X}")
+    steps = []
+    answer = checker_expected.run(m, arrays["code"], arrays["data"], m.limit, steps)
+    if answer[0] == "accepted":
+        return f"accepted {answer[1]} next {m.dpc:08X}"
+    _, number, step, dpc, word = answer
+    told = f"violation {number} step {step} at {dpc:08X} word " + ("-" if word is None else f"{word:08X}")
+    return told + because(steps, answer, "")
 
 
 ANSWERS = {
     "read": read_answer,
     "make": make_answer,
     "checker-step": lambda mnemonic, operands, given: checker_answer(True, given),
-    "checker-run": lambda mnemonic, operands, given: checker_answer(False, given),
+    "checker-run": lambda mnemonic, operands, given: checker_answer(False, given, explained=True),
     "vamp-step": lambda mnemonic, operands, given: vamp_answer(True, given),
     "vamp-run": lambda mnemonic, operands, given: vamp_answer(False, given),
     "load": load_answer,
+    "checker-check": lambda mnemonic, operands, given: checker_answer(False, given),
     "judge": lambda mnemonic, operands, given: [verdict(given.card())],
 }
 

@@ -16,7 +16,7 @@ sys.dont_write_bytecode = True
 
 from words_expected import NAME, TABLE
 
-CALLS = "read make checker-step checker-run vamp-step vamp-run load judge".split()
+CALLS = "read make checker-step checker-run vamp-step vamp-run load judge checker-check".split()
 
 # The places, in the order of the format's table. Arrays with their number of words.
 NUMBERS = "code-start code-words data-start data-words limit dpc pc".split()

@@ -1,8 +1,9 @@
-"""The assembler machine and its checked steps and runs, by document 01 and nothing else.
+"""The assembler machine and its checked steps and runs, by document 01 and nothing else; the explanations, by document 02.
 
-The simulator is written from document 01's "What an instruction does", "Tests of a checked step" and "The run card"; the
-words come from the tables of words_expected.py.
+The simulator is written from document 01's "What an instruction does", "Tests of a checked step" and "The run card", the
+explanations from request Seven of document 02; the words come from the tables of words_expected.py.
 """
+import collections
 import functools
 
 import words_expected
@@ -122,15 +123,21 @@ def tested(m, code):
     return 0, here
 
 
+# A step that was taken: its DPC, its word, the general register that it wrote (None where it wrote none), and whether it was a
+# taken transfer.
+Step = collections.namedtuple("Step", "dpc word wrote taken")
+
+
 def take(m, data, name, f):
-    """The step of one of the twenty."""
+    """The step of one of the twenty. What it did: the general register that it wrote, or None, and whether it was a taken
+    transfer."""
     a = m.gpr[f["RS1"]] if "RS1" in f else None
     b = m.gpr[f["RS2"]] if "RS2" in f else None
     imm, sa = f.get("imm"), f.get("SA")
     onward = low(m.pc + 4)
 
-    # Register and value, the next PC'.
-    put, after = None, onward
+    # Register and value, the target of a taken transfer.
+    put, target = None, None
     if name in ("lw", "sw"):
         at = addresses(m.data).index(low(a + imm)) // 4
         if name == "lw":
@@ -144,41 +151,85 @@ def take(m, data, name, f):
         put = f["RD"], m.spr[sa] if sa in THIRTEEN else 0
     elif name in ("beqz", "bnez"):
         if (a == 0) == (name == "beqz"):
-            after = low(m.pc + imm)
+            target = low(m.pc + imm)
     elif name == "jal":
-        put, after = (31, onward), low(m.pc + imm)
+        put, target = (31, onward), low(m.pc + imm)
     elif name == "jr":
-        after = a
+        target = a
     else:
         put = f["RD"], VALUES[name](a, b, imm, sa)
-    if put and put[0] != 0:
-        m.gpr[put[0]] = put[1]
-    m.dpc, m.pc = m.pc, after
+    # R0 is never written.
+    wrote = put[0] if put and put[0] != 0 else None
+    if wrote:
+        m.gpr[wrote] = put[1]
+    m.dpc, m.pc = m.pc, onward if target is None else target
+    return wrote, target is not None
 
 
-def checked_step(m, code, data):
-    """One checked step: the number and the word of the violation, with nothing changed, or (0, the word)."""
+def checked_step(m, code, data, steps=None):
+    """One checked step: the number and the word of the violation, with nothing changed, or (0, the word). A step that is taken
+    is added to `steps`."""
+    dpc = m.dpc
     number, here = tested(m, code)
     if not number:
-        take(m, data, *read(here))
+        did = take(m, data, *read(here))
+        if steps is not None:
+            steps.append(Step(dpc, here, *did))
     return number, here
 
 
-def run(m, code, data, limit):
+def run(m, code, data, limit, steps=None):
     """Steps until the limit or the first violation: ("accepted", steps), or ("violation", number, step, DPC, word), where the
-    word is None for 21 and 22. The record and the data are changed in place."""
+    word is None for 21 and 22. The record and the data are changed in place; the steps taken are added to `steps`."""
     for taken in range(limit):
         dpc = m.dpc
-        number, here = checked_step(m, code, data)
+        number, here = checked_step(m, code, data, steps)
         if number:
             return "violation", number, taken, dpc, here
     return "accepted", limit
 
 
-def call(single, m, code, data):
+def call(single, m, code, data, steps=None):
     """The answer of a single step or of a run: ("refused", number), or that of the steps."""
     number = refusal(m, code, data, single)
-    return ("refused", number) if number else run(m, code, data, 1 if single else m.limit)
+    return ("refused", number) if number else run(m, code, data, 1 if single else m.limit, steps)
+
+
+# ---- Document 02, request Seven
+
+# Where something came from, if no step is named.
+CARD, ZERO, RAN_ON = "from card", "from zero", "ran on"
+
+
+def source(steps, k, register):
+    """Of a register before step k: the last earlier step that wrote it, or "card" if none did, or "zero" for R0."""
+    if register == 0:
+        return ZERO
+    return next((step for step in reversed(range(k)) if steps[step].wrote == register), CARD)
+
+
+def explanation(steps, kind, number, k=None, dpc=None, word=None):
+    """Of a run's answer, the steps that it took being all before step k: what is explained, a register or DPC, with the number
+    of the step that it came from, or with one of the words above. Empty where there is no explanation."""
+    if kind != "violation":
+        return []
+    if number in (25, 26):
+        _, f = read(word)
+        return [(f"r{f['RS1']}", source(steps, k, f["RS1"]))]
+    if number in (21, 22):
+        return led(steps, k)
+    return []
+
+
+def led(steps, k):
+    """What led to the DPC of step k."""
+    if k in (0, 1):
+        return [("dpc", CARD)]
+    before = k - 2
+    if not steps[before].taken:
+        return [("dpc", RAN_ON)]
+    name, f = read(steps[before].word)
+    return [("dpc", before)] + ([(f"r{f['RS1']}", source(steps, before, f["RS1"]))] if name == "jr" else [])
 
 
 assert len(TWENTY) == 20 and len(THIRTEEN) == 13

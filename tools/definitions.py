@@ -15,11 +15,13 @@ EFFECTS, RECORD = "crates/machine/specs/Effects.antt", "crates/machine/specs/Rec
 CHECKS, RUNS = "crates/checker/specs/Checks.antt", "crates/checker/specs/Runs.antt"
 EVENTS, STEPS = "crates/vamp/specs/Events.antt", "crates/vamp/specs/Steps.antt"
 CARD, LINE = "crates/card/specs/Card.antt", "crates/judge/specs/Line.antt"
+SEVEN, BECAUSE = "crates/checker/specs/Seven.antt", "crates/judge/specs/Because.antt"
 AGREEMENT = "crates/agreement/specs"
 
 # The names in them that are asked for.
 FORM, READING_ANSWER, MADE_ANSWER = "form", "readingAnswer", "madeAnswer"
-RECORD_OF, ANSWERED, TEXT_OF = "recordOf", "answered", "textOf"
+RECORD_OF, ANSWERED, TEXT_OF, BECAUSE_TEXT = "recordOf", "answered", "textOf", "becauseText"
+LED, ADDRESSED = "led", "addressed"
 INTERRUPT, REFUSED = "interrupt", "refused"
 LONGEST, MEMORY, DOUBLE_WORDS, MOST_STEPS, BODY = "LONGEST", "MEMORY", "DOUBLE-WORDS", "MOST-STEPS", "BODY"
 
@@ -313,4 +315,31 @@ class Definitions:
                 else:
                     kinds.append("decimal" if piece[1] == "decimal" else "hex")
             found[pieces[0].strip()] = (pieces, kinds)
+        return found
+
+    # -- explanations
+
+    def explained(self):
+        """The violations of an explanation: of DPC, and of a register."""
+        found = {name: {int(n) for n in numbers.split("∷")[:-1]}
+                 for numbers, name in re.findall(r"one-of v \(((?:\d+ ∷ )+)\[\]\), (\w+) k\)", text_of(SEVEN))}
+        if set(found) != {LED, ADDRESSED}:
+            raise Lost(f"{SEVEN}: no table of violations")
+        return found[LED], found[ADDRESSED]
+
+    def second_lines(self):
+        """The texts of the second line: # stands for a decimal number, % for eight hex digits."""
+        return {text for _, right in self[BECAUSE].of(BECAUSE_TEXT) for text in self.texts(right) if text}
+
+    def texts(self, expression):
+        """The texts that an expression can stand for; a name with several clauses is any of them."""
+        found = {""}
+        for letters, name in re.findall(r"((?:\d+ ∷ )+)\[\]|\b([A-Za-z]+)\b", expression):
+            if letters:
+                more = {"".join(chr(int(n)) for n in letters.split("∷")[:-1])}
+            elif name in ("decimal", "hex"):
+                more = {"#" if name == "decimal" else "%"}
+            else:
+                more = {text for n, _, right in self[BECAUSE].clauses if n == name for text in self.texts(right)} or {""}
+            found = {one + two for one in found for two in more}
         return found

@@ -1,10 +1,10 @@
 #!/usr/bin/env python3
-"""Random calls for the program `calls`, with the answers that document 01 asks for.
+"""Random calls for the program `calls`, with the answers that documents 01 and 02 ask for.
 
     tools/random_calls.py SEED FIRST N CALLS ANSWERS    writes N call lines, from number FIRST on, and their answer lines
     tools/random_calls.py --stats SEED FIRST N          prints how often each answer of each call occurs among them
 
-Call i of a seed is always the same. The answers come from the simulators that are written from document 01 alone
+Call i of a seed is always the same. The answers come from the simulators that are written from these alone
 (tools/call_answers.py); nothing of the proved code is run. Needs Python 3 and nothing else.
 """
 import collections
@@ -19,10 +19,10 @@ from call_lines import BUFFERS, CARD, LENGTHS, MOST, NUMBERS, PLACE, card_places
 from card_expected import HEAD, card
 from checker_expected import MEMORY, MODE, MOST_STEPS, THIRTEEN, TWENTY, low
 from vamp_expected import EDPC, EPC, SIZE, SR
-from words_expected import NAME, RANGE, TABLE, make
+from words_expected import NAME, RANGE, TABLE, make, read
 
 # How often each call is made, of a hundred.
-CALLS = {"read": 8, "make": 9, "checker-step": 15, "checker-run": 20, "vamp-step": 15, "vamp-run": 19, "load": 8, "judge": 6}
+CALLS = {"read": 8, "make": 9, "checker-step": 15, "checker-run": 16, "checker-check": 4, "vamp-step": 15, "vamp-run": 19, "load": 8, "judge": 6}
 
 CORNERS = (0, 1, 2, 3, 2**31 - 2, 2**31 - 1, 2**31, 2**31 + 1, 2**32 - 2, 2**32 - 1)
 
@@ -32,6 +32,9 @@ NEAR_DATA, IN_CODE, NEAR_END, CORNER, SMALL, ANY, LINK = 1, 2, 3, 4, 5, 6, 31
 MOST_WORDS = 1024
 
 IDLE = [n for n in range(32) if n not in THIRTEEN or n == MODE]
+
+# Of the twenty those that neither access the data nor transfer.
+QUIET = [name for name in TWENTY if name not in ("lw", "sw", "beqz", "bnez", "jal", "jr")]
 
 # Of these there are more than of others, since few of them have an event.
 OFTEN = ("addo", "addio", "subo", "subio", "movi2s") * 2
@@ -53,7 +56,7 @@ def any_word(rng):
 class Scene:
     """Regions, registers, a program and data that fit together; `put_faults` has faults on some of them."""
 
-    def __init__(self, rng, names):
+    def __init__(self, rng, names, trail=False):
         self.rng = rng
         self.length = rng.choice((1, 2, 3, 4, 6, 8, 8, 12, 16))
         # In some the regions go on behind the program and the data, with zeros.
@@ -71,6 +74,8 @@ class Scene:
         self.data = [any_word(rng) for _ in range(min(self.data_words, 16))]
         self.limit = rng.choice((0, 1, 1, 2, 3, 5, 8, 13, 20, 40, 60)) if not seldom(rng, 60) else 2000
         self.dpc, self.pc = self.counters()
+        if trail and self.length > 2:
+            self.leave_trail()
 
     def layout(self):
         """Two regions side by side, or with words between them, at any place or at an end of memory."""
@@ -132,6 +137,46 @@ class Scene:
             at += rng.choice((1, 2, 4 * self.data_words, -4 * self.data_words, -4))
         return at - self.gpr[NEAR_DATA] if abs(at - self.gpr[NEAR_DATA]) < 32768 else 0
 
+    # ---- A trail: a program that comes to a bad address, and the steps that have made it
+
+    def leave_trail(self):
+        rng = self.rng
+        register = rng.choice((0, LINK, LINK, IN_CODE, CORNER, SMALL, ANY, ANY, rng.randrange(32)))
+        self.code = [self.put(rng.choice((register, LINK, CORNER, ANY, rng.randrange(32)))) for _ in self.code]
+        if self.length > 6 and seldom(rng, 3):
+            # A loop that counts down.
+            self.code[1:3] = [make("addi", {"RD": SMALL, "RS1": SMALL, "imm": -1}), make("bnez", {"RS1": SMALL, "imm": -8})]
+        # A transfer has a word behind it, for its delay slot.
+        self.code[self.length - 2] = self.bad_end(register)
+        if seldom(rng, 4):
+            self.code[self.length - 1] = self.bad_end(rng.choice((register, ANY)))
+        self.limit = rng.choice((self.limit, 20, 60))
+        first = 0
+        if register == LINK and seldom(rng, 3):
+            # A call of a jr that comes back past the end of the code.
+            first = self.length - 2
+            self.code[0], self.code[first] = make("jr", {"RS1": LINK}), make("jal", {"imm": -4 * (first + 1)})
+        if not seldom(rng, 4):
+            self.dpc = self.code_start + 4 * first
+            self.pc = self.dpc + 4
+
+    def put(self, register):
+        """A word that writes a register; in some one that only names it."""
+        rng, name = self.rng, self.rng.choice(("lw", "lw", "lw", "lw", "sw", *QUIET))
+        if register == LINK and seldom(rng, 2):
+            return make("jal", {"imm": 4})
+        base = NEAR_DATA if name in SIZE else rng.choice((0, IN_CODE, CORNER, SMALL, ANY, register))
+        fields = {"RD": register, "RS1": base, "RS2": rng.choice((0, register, CORNER, SMALL)), "SA": rng.randrange(12)}
+        small = rng.choice((0, 0, 1, 2, 4, -4, rng.randrange(-32768, 32768)))
+        return make(name, fields | {"imm": self.offset(NEAR_DATA, SIZE[name]) if name in SIZE else small})
+
+    def bad_end(self, register):
+        """An access or jr by the register, or another transfer, whose target is often none of the code's words."""
+        rng, name = self.rng, self.rng.choice(("lw", "sw", "lw", "sw", "jr", "jr", "jr", "jal", "beqz", "bnez"))
+        away = rng.choice((1, 2, 4, -2, 4 * self.length, -4 * self.length - 4, 4096))
+        near = rng.choice((0, 1, 2, 4, -4, rng.randrange(-32768, 32768)))
+        return make(name, {"RD": ANY, "RS1": register, "imm": near if name in SIZE else away})
+
 
 def names_for(rng, checked):
     """The mnemonics of a program: on the assembler machine mostly the twenty; trap and rfe end most runs of the VAMP."""
@@ -176,7 +221,7 @@ def record(scene):
 
 
 def checker_call(rng, call):
-    scene = Scene(rng, names_for(rng, True))
+    scene = Scene(rng, names_for(rng, True), trail=call == "checker-run" and seldom(rng, 2))
     fields = record(scene)
     if seldom(rng, 6):
         put_faults(rng, scene, fields)
@@ -225,7 +270,7 @@ def card_bytes(rng, fields, scene):
 
 
 def card_call(rng, call):
-    scene = Scene(rng, names_for(rng, True))
+    scene = Scene(rng, names_for(rng, True), trail=call == "judge" and seldom(rng, 2))
     fields = record(scene)
     if seldom(rng, 4):
         put_faults(rng, scene, fields)
@@ -305,8 +350,18 @@ def call_line(seed, number):
     return " ".join([f"{seed}/{number}:", call, *texts])
 
 
-# What tells one answer from another: the words without the numbers of a case.
+# What tells one answer from another: the words without the numbers of a case. An explanation ends where a place is named.
 KIND = re.compile(r"(legal|made|accepted|loaded|(?:illegal|refused|violation) \d+|answer \d+ cause x\w+)")
+BECAUSE = re.compile(r" because (?:(?! \S+=).)*")
+STEP = re.compile(r"step \d+ at x?\w+ word x?(\w+)")
+REGISTER = re.compile(r"\br[1-9]\d*")
+
+
+def kind_of(answer):
+    """In an explanation a step is told by the mnemonic of its word, and any register but R0 by that it is one."""
+    because = BECAUSE.search(answer)
+    named = STEP.sub(lambda step: read(int(step[1], 16))[0], because[0]) if because else ""
+    return KIND.match(answer)[0] + REGISTER.sub("register", named)
 
 
 def stats(seed, first, count):
@@ -314,7 +369,7 @@ def stats(seed, first, count):
     for number in range(first, first + count):
         line = call_line(seed, number)
         answer = answer_line(line).split(": ", 1)[1]
-        found[f"{line.split(': ', 1)[1].split()[0]}: {KIND.match(answer)[0]}"] += 1
+        found[f"{line.split(': ', 1)[1].split()[0]}: {kind_of(answer)}"] += 1
     for kind, times in sorted(found.items()):
         print(times, kind)
 

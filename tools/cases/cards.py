@@ -2,23 +2,25 @@
 import make_cards
 from call_lines import NUMBERS, card_places, parse
 from card_expected import card
-from cases import checker
+from cases import because, checker
 from cases.card import SPARSE
 from cases.groups import made
 
 # The groups of the checker whose runs are short.
-RUNS = "by-hand traps violations special transfers instructions".split()
+CHECKER = {**checker.GROUPS, **because.GROUPS}
+RUNS = "because by-hand traps violations special transfers instructions".split()
 
 
 def judged(group):
-    for name, content, line in make_cards.samples():
+    for name, content, line, second in make_cards.samples():
         group.call(name, "judge", card_places(content))
         # By hand in make_cards, here by the simulator.
-        assert group.answers[-1] == f"cards/judge/{name}: {line}", name
+        told = f"{line} {second}" if second else line
+        assert group.answers[-1] == f"cards/judge/{name}: {told}", name
 
 
 def loaded(group):
-    for name, content, line in make_cards.samples():
+    for name, content, line, _ in make_cards.samples():
         group.call(name, "load", {**card_places(content), **SPARSE})
         assert group.answers[-1] == f"cards/load/{name}: {line}" or not line.startswith("refused")
 
@@ -33,14 +35,14 @@ def card_of(given):
 
 def runs(group):
     for name in RUNS:
-        for line in made(f"checker/{name}", *checker.GROUPS[f"checker/{name}"]).calls[1:]:
+        for line in made(f"checker/{name}", *CHECKER[f"checker/{name}"]).calls[1:]:
             label, (call, _, _, given) = parse(line)
             if call == "checker-run":
                 group.call(label.partition("/")[2], "judge", card_places(card_of(given)))
 
 
 GROUPS = {
-    "cards/judge": ("the verdict line of each sample card.", judged),
+    "cards/judge": ("the verdict line of each sample card, and its second line.", judged),
     "cards/load": ("each sample card loaded.", loaded),
     "cards/runs": ("what the checker runs in its groups, as cards that are judged.", runs),
 }

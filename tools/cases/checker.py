@@ -33,8 +33,13 @@ def step(group, name, given, *program):
     group.call(f"step {name}", "checker-step", {**given, **buffer_places("code", words(program)), **DATA})
 
 
+def check(group, name, given, *program):
+    group.call(f"check {name}", "checker-check", {**given, **buffer_places("code", words(program)), **DATA})
+
+
 def both(group, name, given, *program):
     run(group, name, given, *program)
+    check(group, name, given, *program)
     step(group, name, given, *program)
 
 
@@ -42,6 +47,7 @@ def lent(group, name, given, code, data, filling):
     """Buffers of so many words, each of the same content."""
     given = {**given, "code": word(filling), "data": 7, "code-length": code, "data-length": data}
     group.call(name, "checker-run", given)
+    group.call(f"check {name}", "checker-check", given)
     group.call(f"step {name}", "checker-step", given)
 
 

@@ -175,7 +175,24 @@ RULES = {
                                         "loaded"),
     "a card judged": ("judge card-length=296 card0=x1444E53 card3=1 card7=4 card8=1", "accepted 1 next 00000004"),
     "a violation judged": ("judge card-length=296 card0=x1444E53 card3=1 card6=4 card8=1",
-                           "violation 22 step 0 at 00000004 word -"),
+                           "violation 22 step 0 at 00000004 word - because dpc from card"),
+    "because of the record": ("checker-run code-words=1 limit=1 dpc=8",
+                              "violation 22 step 0 at x00000008 word x00000000 because dpc from card"),
+    "because it ran on": ("checker-run code-words=2 limit=3 pc=4",
+                          "violation 22 step 2 at x00000008 word x00000000 because dpc ran on dpc=x00000008 pc=x0000000C"),
+    "because of a transfer": ("checker-run code-words=2 limit=3 pc=4 code0=xC000008",
+                              "violation 22 step 2 at x0000000C word x00000000 because dpc from step 0 at x00000000 "
+                              "word x0C000008 dpc=x0000000C pc=x00000010 r31=x00000008"),
+    "because of jr": ("checker-run code-words=2 limit=3 pc=4 code0=x58200000 r1=6",
+                      "violation 21 step 2 at x00000006 word x00000000 because dpc from step 0 at x00000000 "
+                      "word x58200000, r1 from card dpc=x00000006 pc=x0000000A"),
+    "because of R0": ("checker-run code-words=1 limit=1 pc=4 code0=x8C020001",
+                      "violation 25 step 0 at x00000000 word x8C020001 because r0 from zero"),
+    "because of a register": ("checker-run code-words=1 limit=1 pc=4 code0=x8C220001",
+                              "violation 25 step 0 at x00000000 word x8C220001 because r1 from card"),
+    "because of a step": ("checker-run code-words=3 data-start=256 data-words=4 limit=10 pc=4 code0=x2401FFFC code1=x8C220008",
+                          "violation 26 step 1 at x00000004 word x8C220008 because r1 from step 0 at x00000000 "
+                          "word x2401FFFC dpc=x00000004 pc=x00000008 r1=xFFFFFFFC"),
     "the longest card": ("judge card-length=16384 card0=x1444E53 card3=1", "refused 7"),
 }
 

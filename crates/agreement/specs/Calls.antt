@@ -1,4 +1,4 @@
--- Demand 3 for the results of the public calls. `card::load`, `checker::run` and `vamp::run` are promised equal to `loading`, `runs` and `running`, so this is what their callers see.
+-- Demand 3 for the results of the public calls. `card::load`, `checker::check` (and `run`) and `vamp::run` are promised equal to `loading`, `runs` and `running`, so this is what their callers see.
 use Prim.Native.Nat.{ℕ, _+_, _≤_, _<_}
 use mathlib.Core.Path.{_≡_}
 use mathlib.Core.Bool.{true}

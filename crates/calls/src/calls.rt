@@ -1,5 +1,6 @@
 // The calls: each takes its inputs from the places, writes its answer, and keeps in the places what it left.
 use crate::changes::put_hex;
+use crate::checking::Way;
 use crate::checking::put_checker;
 use crate::instructions::instruction_of;
 use crate::loading::put_judge;
@@ -35,18 +36,21 @@ const LOAD: u32 = 7;
 
 const JUDGE: u32 = 8;
 
+const CHECKER_CHECK: u32 = 9;
+
 pub(crate) fn perform(places: &mut [u32]) {
     let call = at(places, CALL);
     match call {
         NAME_ALONE => {}
         READ => put_read(places),
         MAKE => put_make(places),
-        CHECKER_STEP => put_checker(true, places),
-        CHECKER_RUN => put_checker(false, places),
+        CHECKER_STEP => put_checker(Way::Step, places),
+        CHECKER_RUN => put_checker(Way::Run, places),
         VAMP_STEP => put_vamp(true, places),
         VAMP_RUN => put_vamp(false, places),
         LOAD => put_load(places),
         JUDGE => put_judge(places),
+        CHECKER_CHECK => put_checker(Way::Check, places),
         _ => put(b"not a call"),
     }
 }

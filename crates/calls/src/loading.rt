@@ -18,8 +18,10 @@ use crate::records::keep_record;
 use crate::records::take;
 use card::Answer;
 use card::load;
+use judge::explain;
 use judge::judge;
 use show::put;
+use show::put_because;
 use show::put_ruling;
 
 pub(crate) fn put_load(places: &mut [u32]) {
@@ -70,5 +72,11 @@ pub(crate) fn put_judge(places: &[u32]) {
     let mut card = [0u8; BYTES];
     take_bytes(places, &mut card);
     let n = lent(places, CARD_LENGTH, BYTES);
-    put_ruling(judge(&card[0..n]));
+    put_judged(&card[0..n]);
+}
+
+// The verdict line, and behind a blank the second one, where there is an explanation: its text has every value of it.
+fn put_judged(card: &[u8]) {
+    put_ruling(judge(card));
+    put_because(explain(card));
 }

@@ -9,6 +9,7 @@ mod loading;
 mod memory;
 mod names;
 mod places;
+mod reasons;
 mod records;
 mod sailing;
 mod told;

@@ -1,6 +1,10 @@
 pub mod Twenty
 pub mod Tests
 pub mod Fold
+pub mod Copied
+pub mod Retrace
+pub mod Noted
+pub mod Origins
 pub mod Refusals
 pub mod Theorems
 pub mod Beyond

@@ -53,14 +53,34 @@ run-passes m c w z = by (eqb (stepRefusal m c w) 0) refl (sym (run-refusal m c w
     by true e p = eqb-true (stepRefusal m c w) 0 e
     by false e p = p
 
--- Both regions lie in their buffers
+-- Both buffers have the right length, and both regions lie in them
+pub lengths : (m : Machine) (c w : ℕ) → stepRefusal m c w ≡ 0 → (c ≡ LONGEST) × (w ≡ LONGEST)
+lengths m c w z =
+    let p = step-passes m c w z in (
+      eqb-true c LONGEST (not-false (eqb c LONGEST) (either-left (not (eqb c LONGEST)) (not (eqb w LONGEST)) (p .0))),
+      eqb-true w LONGEST (not-false (eqb w LONGEST) (either-right (not (eqb c LONGEST)) (not (eqb w LONGEST)) (p .0))),
+    )
+
 pub rooms : (m : Machine) (c w : ℕ) → stepRefusal m c w ≡ 0 → (m .code .words ≤ c) × (m .«data» .words ≤ w)
 rooms m c w z =
-    let p = step-passes m c w z in
-    let lc : c ≡ LONGEST = eqb-true c LONGEST (not-false (eqb c LONGEST) (either-left (not (eqb c LONGEST)) (not (eqb w LONGEST)) (p .0))) in
-    let lw : w ≡ LONGEST = eqb-true w LONGEST (not-false (eqb w LONGEST) (either-right (not (eqb c LONGEST)) (not (eqb w LONGEST)) (p .0))) in
-    let r = right-count m (p .1) in
+    let l = lengths m c w z in
+    let r = right-count m (step-passes m c w z .1) in
     (omega arith, omega arith)
+
+-- The refusals of a run have no number of a violation
+twelve : (a b c d e f g : Bool) → first ((a, 1) ∷ (b, 6) ∷ (c, 8) ∷ (d, 9) ∷ (e, 10) ∷ (f, 11) ∷ (g, 12) ∷ []) 0 ≤ 12
+twelve true b c d e f g = omega arith
+twelve false true c d e f g = omega arith
+twelve false false true d e f g = omega arith
+twelve false false false true e f g = omega arith
+twelve false false false false true f g = omega arith
+twelve false false false false false true g = omega arith
+twelve false false false false false false true = omega arith
+twelve false false false false false false false = omega arith
+
+pub refusal-number : (m : Machine) (c w : ℕ) → runRefusal m c w ≤ 12
+unfolding runRefusal
+refusal-number m c w = twelve (wrongLength c w) (wrongCount m) (unalignedStart m) (pastMemory m) (overlap m) (notZero m) (overLimit m)
 
 -- A refused call answers its number, and nothing changes
 pub refused : (r n : ℕ) (m : Machine) (code ws : List ℕ) → (r ≡ 0 → ⊥) → _≡_ ((r, []), m, ws) (taking r n m code ws)

@@ -1,3 +1,4 @@
 pub mod Checks
 pub mod Runs
+pub mod Seven
 pub mod Inner

@@ -7,6 +7,7 @@ ghost use Rattle.machine.specs.Record.{first};
 ghost use Rattle.checker.specs.Checks.{outside, found, left};
 ghost use Rattle.checker.specs.Inner.{Room, Stepped, Offset, modeNumber, accessNumber};
 use crate::admitted::admits;
+use crate::touches::written;
 use machine::Effect;
 use machine::Machine;
 use machine::Region;
@@ -16,9 +17,10 @@ use machine::sizes::store_askew;
 use std::num::wrapping_sub_u64;
 use words::Reading;
 
-// A step taken, with the new counters, or stopped, with the number of the test and the word.
+// A step taken, with the new counters and the general register that it wrote (0 for none), or stopped, with the number of the
+// test and the word.
 pub(crate) enum Moved {
-    On(u32, u32),
+    On(u32, u32, u8),
     Stopped(u32, u32),
 }
 
@@ -60,7 +62,7 @@ pub(crate) fn step(
             }
             let loaded = access(effect, accesses, words);
             let onward = machine::apply(effect, loaded, pc, gpr, spr);
-            Moved::On(onward, act.next)
+            Moved::On(onward, act.next, written(effect))
         }
     }
 }

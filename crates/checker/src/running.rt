@@ -9,11 +9,12 @@ use crate::checked::step;
 use machine::Machine;
 use machine::Region;
 
-// The verdict and the counters that a run leaves.
+// The verdict and the counters that a run leaves, and the general register that its last step wrote (0 for none).
 pub(crate) struct Ran {
     pub verdict: Verdict,
     pub dpc: u32,
     pub pc: u32,
+    pub wrote: u8,
 }
 
 pub(crate) fn go(
@@ -33,12 +34,14 @@ pub(crate) fn go(
     let mut taken: u32 = 0;
     let mut here = dpc;
     let mut next = pc;
+    let mut wrote: u8 = 0;
     while taken < limit {
         let moved = step(fetches, accesses, here, next, gpr, spr, code, words);
         match moved {
-            Moved::On(d, p) => {
+            Moved::On(d, p, r) => {
                 here = d;
                 next = p;
+                wrote = r;
                 taken += 1;
             }
             Moved::Stopped(number, word) => {
@@ -46,6 +49,7 @@ pub(crate) fn go(
                     verdict: Verdict::Violation(number, taken, here, word),
                     dpc: here,
                     pc: next,
+                    wrote,
                 };
             }
         }
@@ -54,6 +58,7 @@ pub(crate) fn go(
         verdict: Verdict::Accepted(taken),
         dpc: here,
         pc: next,
+        wrote,
     }
 }
 

@@ -48,7 +48,7 @@ fn put_refused(number: u32) {
 
 fn put_checker(machine: Machine, code: [u32; Machine::WORDS], before: [u32; Machine::WORDS]) {
     let mut words = before;
-    let outcome = checker::run(machine, &code, &mut words);
+    let outcome = checker::check(machine, &code, &mut words);
     let verdict = outcome.verdict;
     let after = outcome.machine;
     put(b"assembler ");

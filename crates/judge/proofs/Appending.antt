@@ -1,7 +1,7 @@
 -- A line written byte after byte: what is left of a text, put after what is written, comes to the whole.
 use Prim.Native.Nat.{ℕ, zero, suc, _+_, _-_, _/_, _%_, _^_, _≤_, _<_}
 use mathlib.Core.Path.{_≡_, refl, sym, ap, _∙_}
-use mathlib.Core.List.{List, [], _∷_, _++_, append-assoc}
+use mathlib.Core.List.{List, [], _∷_, _++_, append-assoc, append-nil}
 use native.Mathlib.Nat.{pow-succ', div-one, pow-zero, div-div-eq-div-mul}
 use native.Mathlib.Omega.{arith}
 use lib.ListN.{length, getD, drop, replicate, length-append, drop-of-length-le}
@@ -47,11 +47,7 @@ push-line t b h =
     (set-at t 0 (replicate (SIZE - suc (length t)) 0) b (length t) refl ∙ sym (append-assoc t (b ∷ []) (replicate (SIZE - suc (length t)) 0))))
 
 append-line : (t u : List ℕ) → length t + length u ≤ SIZE → appended (lineOf t) u ≡ lineOf (t ++ u)
-append-line t [] h = append-none (lineOf t) ∙ ap lineOf (sym (nil t))
-  where
-    nil : (xs : List ℕ) → xs ++ [] ≡ xs
-    nil [] = refl
-    nil (x ∷ xs) = ap (λ (y : List ℕ). x ∷ y) (nil xs)
+append-line t [] h = append-none (lineOf t) ∙ ap lineOf (sym (append-nil t))
 append-line t (b ∷ bs) h =
     let k : length (t ++ b ∷ []) ≡ length t + 1 = length-append t (b ∷ []) in
     append-one (lineOf t) b bs
@@ -64,6 +60,10 @@ written t h = append-line [] t (omega arith)
 
 pub then : (l : Line) (t u : List ℕ) {l' r : Line} → l' ≡ appended l t → r ≡ appended l' u → r ≡ appended l (t ++ u)
 then l t u e f = f ∙ ap (λ (x : Line). appended x u) e ∙ append-append l t u
+
+-- Nothing comes after the last of the texts that are joined
+pub last : (l : Line) (t : List ℕ) {r : Line} → r ≡ appended l t → r ≡ appended l (t ++ [])
+last l t e = e ∙ ap (appended l) (sym (append-nil t))
 
 append-length : (l : Line) (t : List ℕ) → appended l t .len ≡ l .len + length t
 unfolding appended

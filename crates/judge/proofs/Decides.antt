@@ -77,7 +77,7 @@ places-fewest n h =
     (λ g. least (ltb n 100000000) n 100000000 8 _ refl g
     (λ i. least (ltb n 1000000000) n 1000000000 9 10 refl i (λ j. j)))))))))
 
-decimal-decides : (n m : ℕ) → n < 2 ^ 32 → m < 2 ^ 32 → decimal n ≡ decimal m → n ≡ m
+pub decimal-decides : (n m : ℕ) → n < 2 ^ 32 → m < 2 ^ 32 → decimal n ≡ decimal m → n ≡ m
 unfolding decimal
 decimal-decides n m k l e =
     let p : places n ≡ places m = sym (digits-length 10 (places n) n) ∙ ap length e ∙ digits-length 10 (places m) m in
@@ -86,7 +86,7 @@ decimal-decides n m k l e =
     let b : m < 10 ^ places m = places-hold m (omega arith) in
     sym (mod-eq-of-lt a) ∙ digits-decide 10 (places m) n m (omega arith) (omega arith) f ∙ mod-eq-of-lt b
 
-hex-decides : (n m : ℕ) → n < 2 ^ 32 → m < 2 ^ 32 → hex n ≡ hex m → n ≡ m
+pub hex-decides : (n m : ℕ) → n < 2 ^ 32 → m < 2 ^ 32 → hex n ≡ hex m → n ≡ m
 unfolding hex
 hex-decides n m k l e =
     let a : n < 16 ^ 8 = omega arith in
@@ -112,7 +112,7 @@ unfolding digits
 digits-visible b zero n = tt
 digits-visible b (suc k) n = (glyph-visible (n / b ^ k % b), digits-visible b k n)
 
-decimal-visible : (n : ℕ) → Visible (decimal n)
+pub decimal-visible : (n : ℕ) → Visible (decimal n)
 unfolding decimal
 decimal-visible n = digits-visible 10 (places n) n
 
@@ -135,7 +135,7 @@ head x y xs ys e = ap (λ (t : List ℕ). getD t 0 0) e
 rest : (x y : ℕ) (xs ys : List ℕ) → _≡_ {A = List ℕ} (x ∷ xs) (y ∷ ys) → xs ≡ ys
 rest x y xs ys e = ap (λ (t : List ℕ). drop 1 t) e
 
-split : (xs ys : List ℕ) (s : ℕ) (t u : List ℕ) → Visible xs → Visible ys → s ≤ 32 → xs ++ s ∷ t ≡ ys ++ s ∷ u → (xs ≡ ys) × (t ≡ u)
+pub split : (xs ys : List ℕ) (s : ℕ) (t u : List ℕ) → Visible xs → Visible ys → s ≤ 32 → xs ++ s ∷ t ≡ ys ++ s ∷ u → (xs ≡ ys) × (t ≡ u)
 split [] [] s t u p q l e = (refl, rest s s t u e)
 split [] (y ∷ ys) s t u p q l e = let h = head s y t (ys ++ s ∷ u) e in let k = q .0 in absurd (omega arith)
 split (x ∷ xs) [] s t u p q l e = let h = head x s (xs ++ s ∷ t) u e in let k = p .0 in absurd (omega arith)
@@ -146,7 +146,7 @@ split (x ∷ xs) (y ∷ ys) s t u p q l e =
 
 -- ---- The theorem
 
--- Values of 32 bits, and word 0 for 21 and 22, whose line tells none: all that `judge` gives is so (Judged)
+-- Values of 32 bits, and word 0 for 21 and 22, whose line tells none: all that `judge` gives is so (Rulings)
 abbrev pub Proper : Ruling → Type 0
 Proper (Refused n) = n < 2 ^ 32
 Proper (Accepted n d) = (n < 2 ^ 32) × (d < 2 ^ 32)
@@ -194,7 +194,7 @@ text-decides (Violation v k d w) (Violation v′ k′ d′ w′) p q e =
     rw (x, y, z, o)
 
 -- The same of the lines themselves
-line-text : (t u : List ℕ) → lineOf t ≡ lineOf u → t ≡ u
+pub line-text : (t u : List ℕ) → lineOf t ≡ lineOf u → t ≡ u
 unfolding lineOf
 line-text t u e =
     sym (take-append-seam t _) ∙ ap (λ (l : Line). take (l .len) (l .bytes)) e ∙ take-append-seam u _

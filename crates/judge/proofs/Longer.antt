@@ -13,8 +13,8 @@ use Rattle.machine.specs.Record.{DOUBLE-WORDS, LONGEST, wrongCount}
 use Rattle.machine.proofs.Regions.{right-count}
 use Rattle.card.specs.Card.{BODY, tab, number16, number32, numbers, recordOf, tooShort, wrongMark, wrongVersion, reservedSet, wrongSize, refusal}
 use Rattle.card.proofs.Accepted.{accepted, right-size}
-use Rattle.judge.specs.Judging.{refusedBy, judging}
-use Rattle.judge.proofs.Ruled.{judging-refused}
+use Rattle.judge.specs.Judging.{refusedBy, judging, explainedBy}
+use Rattle.judge.proofs.Ruled.{judging-refused, explained-refused}
 
 -- The longest card that loads: 292 + 4 x (1,024 + 1,024) bytes
 abbrev pub LONGEST-CARD : ℕ
@@ -96,10 +96,21 @@ module _ (card : List ℕ) (n : ℕ) (l : LONGEST-CARD < n) (h : n ≤ length ca
       ∙ ap (λ (k : ℕ). (k, [])) same-refusal
       ∙ judging-refused card (refusedBy card) refl (long-refused card (omega arith))
 
+  long-cut-explained : explainedBy (take n card) ≡ explainedBy card
+  long-cut-explained = sym (explained-refused (take n card) (long-refused (take n card) (rw size l))) ∙ explained-refused card (long-refused card (omega arith))
+
 -- Whatever a card has past its first n bytes, n being more than the longest card has, cannot change what is said of it
-pub cut-off : (card : List ℕ) (n : ℕ) → LONGEST-CARD < n → judging (take n card) ≡ judging card
-cut-off card n l = by (ltb (length card) n) refl
-  where
-    by : (t : Bool) → ltb (length card) n ≡ t → judging (take n card) ≡ judging card
-    by true e = let k : length card < n = ltb-true (length card) n e in ap judging (take-all n card (omega arith))
-    by false e = long-cut card n l (ltb-false (length card) n e)
+module _ (card : List ℕ) (n : ℕ) (l : LONGEST-CARD < n) where
+  pub cut-off : judging (take n card) ≡ judging card
+  cut-off = by (ltb (length card) n) refl
+    where
+      by : (t : Bool) → ltb (length card) n ≡ t → judging (take n card) ≡ judging card
+      by true e = let k : length card < n = ltb-true (length card) n e in ap judging (take-all n card (omega arith))
+      by false e = long-cut card n l (ltb-false (length card) n e)
+
+  pub cut-off-explained : explainedBy (take n card) ≡ explainedBy card
+  cut-off-explained = by (ltb (length card) n) refl
+    where
+      by : (t : Bool) → ltb (length card) n ≡ t → explainedBy (take n card) ≡ explainedBy card
+      by true e = let k : length card < n = ltb-true (length card) n e in ap explainedBy (take-all n card (omega arith))
+      by false e = long-cut-explained card n l (ltb-false (length card) n e)

@@ -17,13 +17,16 @@ use Rattle.checker.specs.declared.Verdict.{Verdict}
 use Rattle.checker.specs.declared.Verdict.the-variants.{Refused, Accepted, Violation}
 use Rattle.checker.specs.Checks.{violation}
 use Rattle.checker.specs.declared.Outcome.{Outcome}
+use Rattle.checker.specs.declared.Explanation.{Explanation}
+use Rattle.checker.specs.declared.Explanation.the-variants as because
 use Rattle.checker.specs.Runs.{verdictAnswer, running, after, taking, runs}
+use Rattle.checker.specs.Seven.{explaining}
 use Rattle.checker.proofs.Theorems.{Fine, First, ends, accepts, stops-at}
 use Rattle.card.specs.declared.Answer.the-variants as is
 use Rattle.card.specs.declared.Loaded.{Loaded}
-use Rattle.card.specs.Card.{answerOf, loading}
+use Rattle.card.specs.Card.{recordOf, codeBuffer, dataBuffer, answerOf, loading}
 use Rattle.card.proofs.Results.{Meets, refused-by, loading-accepted, loading-refused, loaded-accepted}
-use Rattle.judge.specs.Judging.{ruled, refusedBy, ranOf, judging}
+use Rattle.judge.specs.Judging.{ruled, refusedBy, ranOf, judging, explainedBy}
 use Rattle.judge.specs.Work.{rulingOf}
 
 abbrev Given : Type 0
@@ -40,6 +43,15 @@ judging-refused card n e d = rw (← e, ne-eqb n 0 d)
 pub judging-accepted : (card : List ℕ) → refusedBy card ≡ 0 → ruled (ranOf card .0) (ranOf card .1 .dpc) ≡ judging card
 unfolding judging
 judging-accepted card e = rw e
+
+-- The two explanations, in the same way
+pub explained-refused : (card : List ℕ) → (refusedBy card ≡ 0 → ⊥) → because.None ≡ explainedBy card
+unfolding explainedBy
+explained-refused card d = rw (ne-eqb (refusedBy card) 0 d)
+
+pub explained-accepted : (card : List ℕ) → refusedBy card ≡ 0 → explaining (recordOf card) (codeBuffer card) (dataBuffer card) (ranOf card .0) ≡ explainedBy card
+unfolding explainedBy
+explained-accepted card e = rw e
 
 -- A run is accepted exactly where its answer has one value, the steps
 record Shaped (o : ℕ × List ℕ) : Type 0 where
@@ -71,18 +83,25 @@ module _ (card code ws memory : List ℕ) (c : length code ≡ LONGEST) (w : len
   right = rw (c, w, m)
 
   module _ (r : Loaded) (code' ws' memory' : List ℕ) (p : Meets card code ws memory r code' ws' memory') where
-    pub refused-ruling : (n : ℕ) → r .answer ≡ is.Refused n → (n, []) ≡ judging card
-    refused-ruling n a = by (eqb (refused-by card code ws memory) 0) refl
+    -- A refusal of the loader has the table's number, which is not 0
+    refused-told : (n : ℕ) → r .answer ≡ is.Refused n → (n ≡ refusedBy card) × (n ≡ 0 → ⊥)
+    refused-told n a = by (eqb (refused-by card code ws memory) 0) refl
       where
         answered : (g : Given) → loading card code ws memory ≡ g → (n, false) ≡ g .0
         answered g e = ap answerOf (sym a) ∙ ap (λ (t : Given). t .0) (p ∙ e)
 
-        by : (t : Bool) → eqb (refused-by card code ws memory) 0 ≡ t → (n, []) ≡ judging card
+        by : (t : Bool) → eqb (refused-by card code ws memory) 0 ≡ t → (n ≡ refusedBy card) × (n ≡ 0 → ⊥)
         by true e = absurd (false-true (ap (λ (t : ℕ × Bool). t .1) (answered _ (loading-accepted card code ws memory (eqb-true (refused-by card code ws memory) 0 e)))))
         by false e =
             let d : refused-by card code ws memory ≡ 0 → ⊥ = eqb-false (refused-by card code ws memory) 0 e in
             let k : n ≡ refused-by card code ws memory = ap (λ (t : ℕ × Bool). t .0) (answered _ (loading-refused card code ws memory d)) in
-            judging-refused card n (k ∙ right) (λ z. d (sym k ∙ z))
+            (k ∙ right, λ z. d (sym k ∙ z))
+
+    pub refused-ruling : (n : ℕ) → r .answer ≡ is.Refused n → (n, []) ≡ judging card
+    refused-ruling n a = let t = refused-told n a in judging-refused card n (t .0) (t .1)
+
+    pub refused-explained : (n : ℕ) → r .answer ≡ is.Refused n → because.None ≡ explainedBy card
+    refused-explained n a = let t = refused-told n a in explained-refused card (λ z. t .1 (t .0 ∙ z))
 
     pub run-ruling : r .answer ≡ is.Loaded → (o : Outcome) (ws'' : List ℕ) → _≡_ (verdictAnswer (o .verdict), o .machine, ws'') (runs (r .machine) code' ws')
         → rulingOf (o .verdict) (o .machine .dpc) ≡ judging card
@@ -92,3 +111,9 @@ module _ (card code ws memory : List ℕ) (c : length code ≡ LONGEST) (w : len
         let s : _≡_ {A = Ran} (runs (r .machine) code' ws') (ranOf card) = ap (λ (t : Given). runs (t .1) (t .2) (t .3)) e in
         let shaped = subst Shaped (ap (λ (t : Ran). t .0) (sym q)) (shaped-taking _ (r .machine .limit) (r .machine) code' ws') in
         ruled-verdict (o .verdict) (o .machine .dpc) shaped ∙ ap (λ (t : Ran). ruled (t .0) (t .1 .dpc)) (q ∙ s) ∙ judging-accepted card (sym right ∙ n)
+
+    pub run-explained : r .answer ≡ is.Loaded → (x : Explanation) → x ≡ explaining (r .machine) code' ws' (runs (r .machine) code' ws' .0) → x ≡ explainedBy card
+    run-explained a x q =
+        let n : refused-by card code ws memory ≡ 0 = loaded-accepted card code ws memory r code' ws' memory' p a in
+        let e = p ∙ loading-accepted card code ws memory n in
+        q ∙ ap (λ (t : Given). explaining (t .1) (t .2) (t .3) (runs (t .1) (t .2) (t .3) .0)) e ∙ explained-accepted card (sym right ∙ n)

@@ -5,7 +5,10 @@ use lib.Dec.{eqb}
 use Rattle.words.specs.Fields.{pick}
 use Rattle.machine.specs.Record.{DOUBLE-WORDS, LONGEST}
 use Rattle.machine.specs.declared.Machine.{Machine}
+use Rattle.checker.specs.declared.Explanation.{Explanation}
+use Rattle.checker.specs.declared.Explanation.the-variants.{None}
 use Rattle.checker.specs.Runs.{runs}
+use Rattle.checker.specs.Seven.{explaining}
 use Rattle.card.specs.Card.{recordOf, codeBuffer, dataBuffer, refusal}
 use Rattle.judge.specs.declared.Ruling.{Ruling}
 use Rattle.judge.specs.declared.Ruling.the-variants.{Refused, Accepted, Violation}
@@ -31,3 +34,7 @@ refusedBy card = refusal card LONGEST LONGEST DOUBLE-WORDS
 -- A refused card is answered by its number, any other by its run
 unfoldable pub judging : List ℕ → ℕ × List ℕ
 judging card = pick (eqb (refusedBy card) 0) (ruled (ranOf card .0) (ranOf card .1 .dpc)) (refusedBy card, [])
+
+-- Document 02, request Seven: the explanation that a card's run gives with its answer. A refused card is not run
+unfoldable pub explainedBy : List ℕ → Explanation
+explainedBy card = pick (eqb (refusedBy card) 0) (explaining (recordOf card) (codeBuffer card) (dataBuffer card) (ranOf card .0)) None

@@ -1,4 +1,5 @@
 pub mod Digits
 pub mod Line
+pub mod Because
 pub mod Judging
 pub mod Work

@@ -76,7 +76,7 @@ textOf (Violation v k d w) = violationText v k d w
 
 -- The bytes that a line has room for
 abbrev pub SIZE : ℕ
-SIZE = 64
+SIZE = 128
 
 -- The line of a text: its bytes and their number, and zeros past them
 unfoldable pub lineOf : List ℕ → Line

@@ -19,3 +19,13 @@ pushed l b = record { bytes = set (l .bytes) (l .len) b; len = l .len + 1 }
 unfoldable pub appended : Line → List ℕ → Line
 appended l [] = l
 appended l (b ∷ bs) = appended (pushed l b) bs
+
+-- The most bytes in a second line: of a step, of a register with its source, and as far as a taken transfer
+abbrev pub STEP-BYTES : ℕ
+STEP-BYTES = 41
+
+abbrev pub FROM-BYTES : ℕ
+FROM-BYTES = 58
+
+abbrev pub LED-BYTES : ℕ
+LED-BYTES = 58

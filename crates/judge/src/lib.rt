@@ -1,23 +1,29 @@
-// Card bytes to a ruling, and a ruling to its line: document 01, "The verdict line".
+// Card bytes to a ruling, and a ruling to its line: document 01, "The verdict line". With a violation where its bad address came
+// from, and the second line that says so: document 02, request Seven.
 ghost use Prim.Native.Nat.{_≤_};
 ghost use mathlib.Core.Path.{_≡_};
 ghost use lib.ListN.{length};
 ghost use Rattle.machine.specs.Record.{DOUBLE-WORDS, LONGEST};
-ghost use Rattle.judge.specs.Judging.{answerOf, judging};
+ghost use Rattle.judge.specs.Judging.{answerOf, judging, explainedBy};
 ghost use Rattle.judge.specs.Line.{lineOf, textOf, hex as Line·hex};
+ghost use Rattle.judge.specs.Because.{becauseText};
 ghost use Rattle.judge.specs.Work.{rulingOf};
 
 mod digits;
 mod lines;
+mod reasons;
 
 use card::Answer;
 use card::load;
+use checker::Explanation;
 use checker::Outcome;
 use checker::Verdict;
+use checker::check;
 use checker::run;
 use digits::digit;
 pub use lines::Line;
 use lines::accepted;
+use lines::empty;
 use lines::refused;
 use lines::violation;
 use machine::Machine;
@@ -51,7 +57,7 @@ fn judge_in(card: &[u8], code: &mut [u32], words: &mut [u32], memory: &mut [u64]
     let answer = loaded.answer;
     match answer {
         Answer::Refused(number) => Ruling::Refused(number),
-        Answer::Loaded => ruling_of(run(loaded.machine, code, words)),
+        Answer::Loaded => ruling_of(check(loaded.machine, code, words)),
     }
 }
 
@@ -67,6 +73,32 @@ fn ruling_of(outcome: Outcome) -> Ruling
     }
 }
 
+// Loads a card and runs it for where the bad address of its violation came from.
+pub fn explain(card: &[u8]) -> Explanation
+    ensures { λ r. ⌜ r ≡ explainedBy (now (card .entry)) ⌝ }
+{
+    let mut code = [0u32; Machine::WORDS];
+    let mut words = [0u32; Machine::WORDS];
+    let mut memory = [0u64; Machine::DOUBLE_WORDS];
+    explain_in(card, &mut code, &mut words, &mut memory)
+}
+
+// The same, in buffers of the right lengths.
+fn explain_in(card: &[u8], code: &mut [u32], words: &mut [u32], memory: &mut [u64]) -> Explanation
+    requires { ⌜ length (now code) ≡ LONGEST ⌝ ∗ ⌜ length (now words) ≡ LONGEST ⌝ ∗ ⌜ length (now memory) ≡ DOUBLE-WORDS ⌝ }
+    ensures { λ r. ⌜ r ≡ explainedBy (now (card .entry)) ⌝ }
+{
+    let loaded = load(card, code, words, memory);
+    let answer = loaded.answer;
+    match answer {
+        Answer::Refused(_) => Explanation::None,
+        Answer::Loaded => {
+            let ran = run(loaded.machine, code, words);
+            ran.explanation
+        }
+    }
+}
+
 // The line of a ruling. The second promise follows from the first; it stands here for `&bytes[..len]`.
 pub fn line(ruling: Ruling) -> Line
     ensures { λ r. ⌜ r ≡ lineOf (textOf ruling) ⌝ }
@@ -76,6 +108,27 @@ pub fn line(ruling: Ruling) -> Line
         Ruling::Refused(number) => refused(number),
         Ruling::Accepted(steps, dpc) => accepted(steps, dpc),
         Ruling::Violation(number, step, dpc, word) => violation(number, step, dpc, word),
+    }
+}
+
+// The second line: the explanation of a violation, with its end; no byte where there is none.
+pub fn because(explanation: Explanation) -> Line
+    ensures { λ r. ⌜ r ≡ lineOf (becauseText explanation) ⌝ }
+    ensures { λ r. ⌜ r .len ≤ length (r .bytes) ⌝ }
+{
+    match explanation {
+        Explanation::None => empty(),
+        Explanation::Register(register, source) => reasons::of_register(register, source),
+        Explanation::Card => reasons::of_card(),
+        Explanation::RanOn => reasons::of_ran_on(),
+        Explanation::Transfer(step, dpc, word) => reasons::of_transfer(step, dpc, word),
+        Explanation::Jr(step, dpc, word, register, source) => reasons::of_jr(
+            step,
+            dpc,
+            word,
+            register,
+            source,
+        ),
     }
 }
 

@@ -11,7 +11,7 @@ use crate::digits::places;
 
 // The bytes of a line and how many they are; the bytes past them are zero.
 pub struct Line {
-    pub bytes: [u8; 64],
+    pub bytes: [u8; 128],
     pub len: usize,
 }
 
@@ -50,12 +50,12 @@ pub(crate) fn violation(number: u32, step: u32, dpc: u32, word: u32) -> Line
     put(line, b"\n")
 }
 
-fn empty() -> Line
+pub(crate) fn empty() -> Line
     ensures { λ r. ⌜ r ≡ lineOf [] ⌝ }
     ensures { λ r. ⌜ r .len ≡ 0 ⌝ }
 {
     Line {
-        bytes: [0; 64],
+        bytes: [0; 128],
         len: 0,
     }
 }
@@ -70,7 +70,7 @@ fn push(line: Line, byte: u8) -> Line
     Line { bytes, len: at + 1 }
 }
 
-fn put(line: Line, text: &[u8]) -> Line
+pub(crate) fn put(line: Line, text: &[u8]) -> Line
     requires { ⌜ line .len + length (now text) ≤ SIZE ⌝ }
     ensures { λ r. ⌜ r ≡ appended line (now (text .entry)) ⌝ }
     ensures { λ r. ⌜ r .len ≡ line .len + length (now (text .entry)) ⌝ }
@@ -96,7 +96,7 @@ fn put_digits(line: Line, n: u32, base: u32, count: u32) -> Line
     put_digits(longer, n, base, count - 1)
 }
 
-fn put_decimal(line: Line, n: u32) -> Line
+pub(crate) fn put_decimal(line: Line, n: u32) -> Line
     requires { ⌜ line .len + 10 ≤ SIZE ⌝ }
     ensures { λ r. ⌜ r ≡ appended line (decimal n) ⌝ }
     ensures { λ r. ⌜ r .len ≤ line .len + 10 ⌝ }
@@ -104,7 +104,7 @@ fn put_decimal(line: Line, n: u32) -> Line
     put_digits(line, n, 10, places(n))
 }
 
-fn put_hex(line: Line, n: u32) -> Line
+pub(crate) fn put_hex(line: Line, n: u32) -> Line
     requires { ⌜ line .len + 8 ≤ SIZE ⌝ }
     ensures { λ r. ⌜ r ≡ appended line (hex n) ⌝ }
     ensures { λ r. ⌜ r .len ≡ line .len + 8 ⌝ }

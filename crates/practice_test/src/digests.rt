@@ -41,7 +41,7 @@ fn put_double(double: u64) {
 
 // The steps taken, the answer, the registers, the code and the data.
 fn checker_digest(machine: Machine, code: &[u32], words: &mut [u32]) -> u64 {
-    let outcome = checker::run(machine, code, words);
+    let outcome = checker::check(machine, code, words);
     let verdict = outcome.verdict;
     let after = outcome.machine;
     let ended = with_registers(verdict_digest(verdict), after);

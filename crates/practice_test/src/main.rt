@@ -1,13 +1,16 @@
-// Runs the cards of a bundle on both machines, and writes a line for each card: its verdict line and, where it was not
-// refused, digests of what each machine left. A bundle has for each card its length in four bytes, the lowest first, and its
-// bytes. `sim/simulate bundle` writes the same lines; sim/README.md says what a digest is of.
+// Runs the cards of a bundle on both machines, and writes a line for each card: its verdict line; where it was not refused,
+// digests of what each machine left; and where there is an explanation, a blank and its text. A bundle has for each card its
+// length in four bytes, the lowest first, and its bytes. `sim/simulate bundle` writes the same lines; sim/README.md says what
+// a digest is of.
 mod digests;
 
 use digests::put_digests;
+use judge::explain;
 use judge::judge;
 use libc::STDIN_FILENO;
 use show::ROOM;
 use show::put;
+use show::put_because;
 use show::put_ruling;
 use show::word;
 
@@ -63,6 +66,7 @@ fn answer(card: &mut [u8], past: usize) -> bool {
     }
     put_ruling(judge(card));
     put_digests(card);
+    put_because(explain(card));
     put(b"\n");
     true
 }

@@ -2,7 +2,9 @@
 // a double word.
 ghost use mathlib.Core.Path.{_≡_};
 ghost use Prim.Native.Nat.{_+_, _*_, _/_, _%_, _^_};
+use checker::Explanation;
 use judge::Ruling;
+use judge::because;
 use judge::hex;
 use judge::line;
 use libc::STDOUT_FILENO;
@@ -39,6 +41,18 @@ pub fn put_ruling(ruling: Ruling) {
     let bytes = written.bytes;
     if len > 0 {
         let end = len - 1;
+        put(&bytes[..end]);
+    }
+}
+
+// A blank and the second line, that of an explanation, without its end; nothing where there is none.
+pub fn put_because(explanation: Explanation) {
+    let written = because(explanation);
+    let len = written.len;
+    let bytes = written.bytes;
+    if len > 0 {
+        let end = len - 1;
+        put(b" ");
         put(&bytes[..end]);
     }
 }

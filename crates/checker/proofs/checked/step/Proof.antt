@@ -1,3 +1,4 @@
+use Rattle.checker.proofs.Retrace.{writes-by}
 use Prim.Native.Nat.{_<_}
 use Prim.Native.Nat.{ℕ}
 use borrow.Author.Needs.{needs}
@@ -37,6 +38,7 @@ step-spec =
     (λ c. (let k : 24 < c .before .first-broken .result = effect-number (askew (c .before .before .meaning .result .effect)) (outside (c .before .before .before .before .before .before .before .before .before .before .before .before .before .before .before .before .before .before .args .accesses) (c .before .before .meaning .result .effect)) (modeSet (c .before .before .meaning .result .effect)) (c .before .first-broken .result) (c .before .first-broken .ensures) (c .if4 .taken) in (tests-left _ _ _ _ (c .before .before .before .before .before .before .before .before .before .before .before .before .before .before .before .if1 .left) (c .before .before .before .before .before .before .before .before .before .before .before .before .before .before .offset-of .ensures .0 (c .before .before .before .before .before .before .before .before .before .before .before .before .if2 .left) .0) _ (ap reading (sym (offset-word (c .before .before .before .before .before .before .before .before .before .before .before .before .before .before .before .before .before .before .args .fetches) (c .before .before .before .before .before .before .before .before .before .before .before .before .before .before .before .before .before .before .args .code .now) _ _ (c .before .before .before .before .before .before .before .before .before .before .before .before .before .before .offset-of .ensures) (c .before .before .before .before .before .before .before .before .before .before .before .before .if2 .left))) ∙ sym (c .before .before .before .before .before .before .before .before .before .before .read .ensures) ∙ ap readingAnswer (c .before .before .before .before .before .before .before .before .reading .given .1)) (sym (c .before .before .before .before .before .before .admits .ensures) ∙ not-false _ (c .before .before .before .before .before .if3 .left)) (c .before .before .meaning .result .effect) (ap (λ (p : Effect × ℕ). p .0) (c .before .before .meaning .ensures)) ∙ sym (c .before .first-broken .ensures), omega arith, rw (le-ltb (c .before .first-broken .result) 23 (omega arith)) (offset-word (c .before .before .before .before .before .before .before .before .before .before .before .before .before .before .before .before .before .before .args .fetches) (c .before .before .before .before .before .before .before .before .before .before .before .before .before .before .before .before .before .before .args .code .now) _ _ (c .before .before .before .before .before .before .before .before .before .before .before .before .before .before .offset-of .ensures) (c .before .before .before .before .before .before .before .before .before .before .before .before .if2 .left)), refl, refl, refl)))
     (λ c κs. (c .before .before .before .before .before .before .before .before .before .before .before .before .before .before .before .before .before .before .before .pre .1, none-broken (askew (c .before .before .before .meaning .result .effect)) (outside (c .before .before .before .before .before .before .before .before .before .before .before .before .before .before .before .before .before .before .before .args .accesses) (c .before .before .before .meaning .result .effect)) (modeSet (c .before .before .before .meaning .result .effect)) (sym (c .before .before .first-broken .ensures) ∙ c .before .if4 .left) .1))
     (λ c κs. search needs)
+    (λ c κs. search needs)
     (λ c. (stop-23 _ _ _ _ (c .before .before .before .before .before .before .before .if1 .left) (c .before .before .before .before .before .before .offset-of .ensures .0 (c .before .before .before .before .if2 .left) .0) (ap reading (sym (offset-word (c .before .before .before .before .before .before .before .before .before .before .args .fetches) (c .before .before .before .before .before .before .before .before .before .before .args .code .now) _ _ (c .before .before .before .before .before .before .offset-of .ensures) (c .before .before .before .before .if2 .left))) ∙ sym (c .before .before .read .ensures) ∙ ap readingAnswer (c .enum-told .given .1)), omega arith, offset-word (c .before .before .before .before .before .before .before .before .before .before .args .fetches) (c .before .before .before .before .before .before .before .before .before .before .args .code .now) _ _ (c .before .before .before .before .before .before .offset-of .ensures) (c .before .before .before .before .if2 .left), refl, refl, refl))
     (λ c. search needs)
-    (λ c. (tests-left _ _ _ _ (c .before .before .before .before .before .before .before .before .before .before .before .before .before .before .before .before .before .before .before .before .before .before .if1 .left) (c .before .before .before .before .before .before .before .before .before .before .before .before .before .before .before .before .before .before .before .before .before .offset-of .ensures .0 (c .before .before .before .before .before .before .before .before .before .before .before .before .before .before .before .before .before .before .before .if2 .left) .0) _ (ap reading (sym (offset-word (c .before .before .before .before .before .before .before .before .before .before .before .before .before .before .before .before .before .before .before .before .before .before .before .before .before .args .fetches) (c .before .before .before .before .before .before .before .before .before .before .before .before .before .before .before .before .before .before .before .before .before .before .before .before .before .args .code .now) _ _ (c .before .before .before .before .before .before .before .before .before .before .before .before .before .before .before .before .before .before .before .before .before .offset-of .ensures) (c .before .before .before .before .before .before .before .before .before .before .before .before .before .before .before .before .before .before .before .if2 .left))) ∙ sym (c .before .before .before .before .before .before .before .before .before .before .before .before .before .before .before .before .before .read .ensures) ∙ ap readingAnswer (c .before .before .before .before .before .before .before .before .before .before .before .before .before .before .before .reading .given .1)) (sym (c .before .before .before .before .before .before .before .before .before .before .before .before .before .admits .ensures) ∙ not-false _ (c .before .before .before .before .before .before .before .before .before .before .before .before .if3 .left)) (c .before .before .before .before .before .before .before .before .before .meaning .result .effect) (ap (λ (p : Effect × ℕ). p .0) (c .before .before .before .before .before .before .before .before .before .meaning .ensures)) ∙ sym (c .before .before .before .before .before .before .before .before .first-broken .ensures) ∙ c .before .before .before .before .before .before .before .if4 .left, taken _ _ _ _ (c .before .before .before .before .before .before .before .before .before .before .before .before .before .before .before .before .before .before .before .before .before .before .if1 .left) (c .before .before .before .before .before .before .before .before .before .before .before .before .before .before .before .before .before .before .before .before .before .offset-of .ensures .0 (c .before .before .before .before .before .before .before .before .before .before .before .before .before .before .before .before .before .before .before .if2 .left) .0) _ (ap reading (sym (offset-word (c .before .before .before .before .before .before .before .before .before .before .before .before .before .before .before .before .before .before .before .before .before .before .before .before .before .args .fetches) (c .before .before .before .before .before .before .before .before .before .before .before .before .before .before .before .before .before .before .before .before .before .before .before .before .before .args .code .now) _ _ (c .before .before .before .before .before .before .before .before .before .before .before .before .before .before .before .before .before .before .before .before .before .offset-of .ensures) (c .before .before .before .before .before .before .before .before .before .before .before .before .before .before .before .before .before .before .before .if2 .left))) ∙ sym (c .before .before .before .before .before .before .before .before .before .before .before .before .before .before .before .before .before .read .ensures) ∙ ap readingAnswer (c .before .before .before .before .before .before .before .before .before .before .before .before .before .before .before .reading .given .1)) _ _ _ _ _ _ _ _ (c .before .before .before .before .before .before .before .before .before .meaning .ensures) (c .before .before .before .before .before .access .ensures .0) (c .before .before .before .before .before .access .ensures .1) (c .apply .ensures))))
+    (λ c. (tests-left _ _ _ _ (c .before .before .before .before .before .before .before .before .before .before .before .before .before .before .before .before .before .before .before .before .before .before .before .if1 .left) (c .before .before .before .before .before .before .before .before .before .before .before .before .before .before .before .before .before .before .before .before .before .before .offset-of .ensures .0 (c .before .before .before .before .before .before .before .before .before .before .before .before .before .before .before .before .before .before .before .before .if2 .left) .0) _ (ap reading (sym (offset-word (c .before .before .before .before .before .before .before .before .before .before .before .before .before .before .before .before .before .before .before .before .before .before .before .before .before .before .args .fetches) (c .before .before .before .before .before .before .before .before .before .before .before .before .before .before .before .before .before .before .before .before .before .before .before .before .before .before .args .code .now) _ _ (c .before .before .before .before .before .before .before .before .before .before .before .before .before .before .before .before .before .before .before .before .before .before .offset-of .ensures) (c .before .before .before .before .before .before .before .before .before .before .before .before .before .before .before .before .before .before .before .before .if2 .left))) ∙ sym (c .before .before .before .before .before .before .before .before .before .before .before .before .before .before .before .before .before .before .read .ensures) ∙ ap readingAnswer (c .before .before .before .before .before .before .before .before .before .before .before .before .before .before .before .before .reading .given .1)) (sym (c .before .before .before .before .before .before .before .before .before .before .before .before .before .before .admits .ensures) ∙ not-false _ (c .before .before .before .before .before .before .before .before .before .before .before .before .before .if3 .left)) (c .before .before .before .before .before .before .before .before .before .before .meaning .result .effect) (ap (λ (p : Effect × ℕ). p .0) (c .before .before .before .before .before .before .before .before .before .before .meaning .ensures)) ∙ sym (c .before .before .before .before .before .before .before .before .before .first-broken .ensures) ∙ c .before .before .before .before .before .before .before .before .if4 .left, taken _ _ _ _ (c .before .before .before .before .before .before .before .before .before .before .before .before .before .before .before .before .before .before .before .before .before .before .before .if1 .left) (c .before .before .before .before .before .before .before .before .before .before .before .before .before .before .before .before .before .before .before .before .before .before .offset-of .ensures .0 (c .before .before .before .before .before .before .before .before .before .before .before .before .before .before .before .before .before .before .before .before .if2 .left) .0) _ (ap reading (sym (offset-word (c .before .before .before .before .before .before .before .before .before .before .before .before .before .before .before .before .before .before .before .before .before .before .before .before .before .before .args .fetches) (c .before .before .before .before .before .before .before .before .before .before .before .before .before .before .before .before .before .before .before .before .before .before .before .before .before .before .args .code .now) _ _ (c .before .before .before .before .before .before .before .before .before .before .before .before .before .before .before .before .before .before .before .before .before .before .offset-of .ensures) (c .before .before .before .before .before .before .before .before .before .before .before .before .before .before .before .before .before .before .before .before .if2 .left))) ∙ sym (c .before .before .before .before .before .before .before .before .before .before .before .before .before .before .before .before .before .before .read .ensures) ∙ ap readingAnswer (c .before .before .before .before .before .before .before .before .before .before .before .before .before .before .before .before .reading .given .1)) _ _ _ _ _ _ _ _ (c .before .before .before .before .before .before .before .before .before .before .meaning .ensures) (c .before .before .before .before .before .before .access .ensures .0) (c .before .before .before .before .before .before .access .ensures .1) (c .before .apply .ensures), c .written .ensures ∙ writes-by _ _ _ (ap reading (sym (offset-word (c .before .before .before .before .before .before .before .before .before .before .before .before .before .before .before .before .before .before .before .before .before .before .before .before .before .before .args .fetches) (c .before .before .before .before .before .before .before .before .before .before .before .before .before .before .before .before .before .before .before .before .before .before .before .before .before .before .args .code .now) _ _ (c .before .before .before .before .before .before .before .before .before .before .before .before .before .before .before .before .before .before .before .before .before .before .offset-of .ensures) (c .before .before .before .before .before .before .before .before .before .before .before .before .before .before .before .before .before .before .before .before .if2 .left))) ∙ sym (c .before .before .before .before .before .before .before .before .before .before .before .before .before .before .before .before .before .before .read .ensures) ∙ ap readingAnswer (c .before .before .before .before .before .before .before .before .before .before .before .before .before .before .before .before .reading .given .1)) _ _ (c .before .before .before .before .before .before .before .before .before .before .meaning .ensures))))

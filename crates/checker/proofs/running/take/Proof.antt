@@ -10,4 +10,4 @@ use Rattle.machine.specs.Record.{withState}
 
 pub take-spec : {M : Type 1} → statement M
 unfolding taking
-take-spec = tie.close (tie.spec (λ c κs. search needs) (λ c. search needs) (λ c. ap (λ (o : (ℕ × List ℕ) × (State × List ℕ)). (o .0, withState (c .before .before .before .before .before .before .before .before .before .before .before .before .args .machine) (o .1 .0), o .1 .1)) (c .before .before .go .ensures)))
+take-spec = tie.close (tie.spec (λ c κs. search needs) (λ c. search needs) (λ c. ap (λ (o : (ℕ × List ℕ) × (State × List ℕ)). (o .0, withState (c .before .before .before .before .before .before .before .before .before .before .before .before .args .machine) (o .1 .0), o .1 .1)) (c .before .before .go .ensures .0)))

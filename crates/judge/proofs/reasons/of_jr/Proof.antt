@@ -1,0 +1,20 @@
+use borrow.Author.Needs.{needs}
+use mathlib.Core.Path.{refl}
+use native.Mathlib.Omega.{arith}
+use Rattle.judge.proofs.Appending.{then, finished}
+use Rattle.judge.proofs.reasons.of_jr.Statement.{statement}
+use Rattle.judge.proofs.reasons.of_jr.Tie as tie
+use Rattle.judge.specs.Because.{jrText}
+
+pub of-jr-spec : {M : Type 1} → statement M
+unfolding jrText
+of-jr-spec =
+    tie.close
+    (tie.spec
+    (λ c κs. search needs)
+    (λ c. search needs)
+    (λ c κs. search needs)
+    (λ c κs. search needs)
+    (λ c. search needs)
+    (λ c κs. search needs)
+    (λ c. finished _ refl (omega arith) (then _ _ _ (c .before .before .before .before .before .led .ensures .0) (then _ _ _ (c .before .before .before .put .ensures .0) (then _ _ _ (c .before .before .put-from .ensures .0) (c .put2 .ensures .0))))))
