@@ -4,3 +4,4 @@ pub mod Longer
 pub mod Decides
 pub mod Second
 pub mod Judged
+pub mod Explained
