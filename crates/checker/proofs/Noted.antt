@@ -25,7 +25,7 @@ use Rattle.checker.specs.declared.touches.Turn.the-variants.{On, Taken, 
 use Rattle.checker.specs.Inner.{Room, Passed, Answered, Retraces, noted, notedSource}
 use Rattle.checker.specs.Runs.{running, taking, verdictAnswer}
 use Rattle.checker.specs.Seven.{turn, before, wordOf, sourceOf, led, addressed, explanation, explaining}
-use Rattle.checker.proofs.Theorems.{Fine, First, ends, accepts, stops-at}
+use Rattle.checker.proofs.Theorems.{Fine, First, ends, accepts, stops-at, answer, count, values}
 
 pub noted-step : (c : Region) (code : List ℕ) (n d : ℕ) → (n ≡ 0 → ⊥) → from.Step (n - 1) d (wordAt c code d) ≡ noted c code n d
 noted-step c code zero d z = absurd (z refl)
@@ -129,26 +129,17 @@ taking-answer n m code ws = refl
 
 -- A run answers accepted, or a violation before which no step breaks a test
 module _ (m : Machine) (code ws : List ℕ) (n : ℕ) (rc : Room (m .code) code) (rd : Room (m .«data») ws) where
-  answer : {o q : (ℕ × List ℕ) × (State × List ℕ)} → o ≡ q → o .0 ≡ q .0
-  answer e = ap (λ (r : (ℕ × List ℕ) × (State × List ℕ)). r .0) e
-
-  values : {o q : ℕ × List ℕ} → o ≡ q → length (o .1) ≡ length (q .1)
-  values e = ap (λ (r : ℕ × List ℕ). length (r .1)) e
-
-  count : {o q : ℕ × List ℕ} → o ≡ q → getD (o .1) 0 0 ≡ getD (q .1) 0 0
-  count e = ap (λ (r : ℕ × List ℕ). getD (r .1) 0 0) e
-
   ended : (a : ℕ × List ℕ) → a ≡ running (m .code) (m .«data») code 0 n (stateOf m, ws) .0
       → (length (a .1) ≡ 1) ⊎ ((length (a .1) ≡ 3) × Passed m code ws (getD (a .1) 0 0))
   ended a e = by (ends (m .code) (m .«data») code n (stateOf m, ws))
     where
       by : Fine (m .code) (m .«data») code n (stateOf m, ws) ⊎ First (m .code) (m .«data») code n (stateOf m, ws)
           → (length (a .1) ≡ 1) ⊎ ((length (a .1) ≡ 3) × Passed m code ws (getD (a .1) 0 0))
-      by (inl f) = inl (values (e ∙ answer (accepts (m .code) (m .«data») code 0 n (stateOf m, ws) f)))
+      by (inl f) = inl (values _ _ (e ∙ answer (m .code) (m .«data») code (accepts (m .code) (m .«data») code 0 n (stateOf m, ws) f)))
       by (inr f) =
-          let s = e ∙ answer (stops-at (m .code) (m .«data») code 0 n (f .0) _ (stateOf m, ws) (f .1) (f .2) refl (f .3)) in
-          let q : getD (a .1) 0 0 ≡ 0 + f .0 = count s in
-          inr (values s, (rc, rd, λ j l. f .2 j (omega arith)))
+          let s = e ∙ answer (m .code) (m .«data») code (stops-at (m .code) (m .«data») code 0 n (f .0) _ (stateOf m, ws) (f .1) (f .2) refl (f .3)) in
+          let q : getD (a .1) 0 0 ≡ 0 + f .0 = count (m .code) (m .«data») code _ _ s in
+          inr (values _ _ s, (rc, rd, λ j l. f .2 j (omega arith)))
 
   pub answered : (v : Verdict) → verdictAnswer v ≡ running (m .code) (m .«data») code 0 n (stateOf m, ws) .0 → Answered m code ws v
   answered (Refused r) e = by (ended _ e)

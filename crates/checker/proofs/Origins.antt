@@ -12,13 +12,14 @@ use lib.ListN.{length, getD, set, length-set}
 use lib.Seq.{getD-set-same, getD-set-other}
 use native.Mathlib.Omega.{arith}
 use Rattle.words.specs.Fields.{pick, opcode, function, rs1, second, immediate16, immediate26}
-use Rattle.words.specs.Words.{form, numbered, among, instructions, reading}
+use Rattle.words.specs.Words.{form, numbered, reading}
 use Rattle.words.specs.declared.LoadKind.the-variants.{Lb, Lh, Lw, Lbu, Lhu}
 use Rattle.words.specs.declared.StoreKind.the-variants.{Sb, Sh, Sw}
 use Rattle.words.specs.declared.Instruction.{Instruction}
 use Rattle.words.specs.declared.Instruction.the-variants.{ShiftImmediate, ShiftRegister, Movs2i, Movi2s, ArithmeticRegister, Lhg, Clr, CompareRegister, Set, J, Jal, Trap, Rfe, Beqz, Bnez, ArithmeticImmediate, Lhgi, Jr, Jalr, Clri, CompareImmediate, Seti, Load, Store}
 use Rattle.words.specs.declared.Arithmetic.{Arithmetic}
 use Rattle.words.specs.declared.Arithmetic.the-variants.{Addo, Add, Subo, Sub, And, Or, Xor}
+use Rattle.words.proofs.Again.{read-numbered}
 use Rattle.words.proofs.Signed.{false-true}
 use Rattle.arithmetic.specs.Rulings.{plus, sext}
 use Rattle.machine.specs.declared.Effect.{Effect}
@@ -273,23 +274,6 @@ Leads On x pc g = x ≡ plus pc 4
 Leads Taken x pc g = (z : ℤ) × (x ≡ plus pc (sext z))
 Leads (By n) x pc g = x ≡ register g n
 
--- An instruction has the opcode of the word that it was read from
-numbered-among : (o f : ℕ) (is : List Instruction) (i : Instruction) → among o f is ≡ (0, some i) → numbered o f (form i) ≡ true
-numbered-among o f [] i e = let z : _≡_ {A = ℕ} 23 0 = ap (λ (x : ℕ × Option Instruction). x .0) e in absurd (omega arith)
-numbered-among o f (j ∷ is) i e = by (numbered o f (form j)) refl e (numbered-among o f is i)
-  where
-    by : (t : Bool) → numbered o f (form j) ≡ t → pick {A = ℕ × Option Instruction} t (0, some j) (among o f is) ≡ (0, some i)
-        → (among o f is ≡ (0, some i) → numbered o f (form i) ≡ true) → numbered o f (form i) ≡ true
-    by true q h rest =
-        let m : some j ≡ some i = ap (λ (x : ℕ × Option Instruction). x .1) h in
-        let k : j ≡ i = cc in
-        rw k at q
-    by false q h rest = rest h
-
-pub numbered-reading : (w : ℕ) (i : Instruction) → reading w ≡ (0, some i) → numbered (opcode w) (function w) (form i) ≡ true
-unfolding reading
-numbered-reading w i e = numbered-among (opcode w) (function w) (instructions w) i e
-
 -- The transfers, by their opcodes
 module _ (w : ℕ) where
   reads-jal : opcode w ≡ 0x03 → reading w ≡ (0, some (Jal (immediate26 w)))
@@ -400,7 +384,7 @@ leads w s i e a = by (eqb (opcode w) 0x03) refl (eqb (opcode w) 0x16) refl (eqb 
     by false f true g beqz h bnez k = rw (act-reads w s _ (reads-jr w (eqb-true (opcode w) 0x16 g)))
     by false f false g true h bnez k = rw (act-reads w s _ (reads-beqz w (eqb-true (opcode w) 0x04 h))) (branch (s .pc) (s .gpr) (s .spr) (eqb (register (s .gpr) (rs1 w)) 0) (immediate16 w))
     by false f false g false h true k = rw (act-reads w s _ (reads-bnez w (eqb-true (opcode w) 0x05 k))) (branch (s .pc) (s .gpr) (s .spr) (not (eqb (register (s .gpr) (rs1 w)) 0)) (immediate16 w))
-    by false f false g false h false k = rw (act-reads w s i e) (onward (s .pc) (s .gpr) (s .spr) (opcode w) (function w) i (numbered-reading w i e) a f g h k)
+    by false f false g false h false k = rw (act-reads w s i e) (onward (s .pc) (s .gpr) (s .spr) (opcode w) (function w) i (read-numbered w i e) a f g h k)
 
 -- A step that breaks no test runs one of the twenty
 pub runs-own : (c d : Region) (code : List ℕ) (s : State) → violation c d code s ≡ 0
@@ -575,7 +559,7 @@ at-base w s i e a = by (eqb (opcode w) 0x23) refl (eqb (opcode w) 0x2B) refl
     by : (lw : Bool) → eqb (opcode w) 0x23 ≡ lw → (sw : Bool) → eqb (opcode w) 0x2B ≡ sw → AtBase w (s .gpr) (access (act w s .0))
     by true f sw g = rw (act-reads w s _ (reads-lw w (eqb-true (opcode w) 0x23 f))) (immediate16 w, refl)
     by false f true g = rw (act-reads w s _ (reads-sw w (eqb-true (opcode w) 0x2B g))) (immediate16 w, refl)
-    by false f false g = rw (act-reads w s i e) (no-other w (s .pc) (s .gpr) (s .spr) (opcode w) (function w) i (numbered-reading w i e) a f g)
+    by false f false g = rw (act-reads w s i e) (no-other w (s .pc) (s .gpr) (s .spr) (opcode w) (function w) i (read-numbered w i e) a f g)
 
 -- ---- So what a run explains is so: the explanation that goes with its violation v at step k
 

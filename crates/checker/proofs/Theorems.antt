@@ -71,10 +71,10 @@ module _ (c d : Region) (code : List ℕ) where
   number : (o q : ℕ × List ℕ) → o ≡ q → o .0 ≡ q .0
   number o q e = ap (λ (r : ℕ × List ℕ). r .0) e
 
-  count : (o q : ℕ × List ℕ) → o ≡ q → getD (o .1) 0 0 ≡ getD (q .1) 0 0
+  pub count : (o q : ℕ × List ℕ) → o ≡ q → getD (o .1) 0 0 ≡ getD (q .1) 0 0
   count o q e = ap (λ (r : ℕ × List ℕ). getD (r .1) 0 0) e
 
-  answer : {o q : (ℕ × List ℕ) × (State × List ℕ)} → o ≡ q → o .0 ≡ q .0
+  pub answer : {o q : (ℕ × List ℕ) × (State × List ℕ)} → o ≡ q → o .0 ≡ q .0
   answer e = ap (λ (r : (ℕ × List ℕ) × (State × List ℕ)). r .0) e
 
   pub accepted-only : (n k : ℕ) (p : State × List ℕ) → running c d code 0 n p .0 ≡ (0, k ∷ []) → Fine n p × (k ≡ n)
@@ -137,7 +137,7 @@ handed-back (suc r) n m code ws e = e
 
 -- ---- Two results that meet a promise are equal
 
-values : (o q : ℕ × List ℕ) → o ≡ q → length (o .1) ≡ length (q .1)
+pub values : (o q : ℕ × List ℕ) → o ≡ q → length (o .1) ≡ length (q .1)
 values o q e = ap (λ (r : ℕ × List ℕ). length (r .1)) e
 
 value : (i : ℕ) (o q : ℕ × List ℕ) → o ≡ q → getD (o .1) i 0 ≡ getD (q .1) i 0

@@ -157,7 +157,11 @@ all-own w (i ∷ is) = (twice i w, all-own w is)
 own-fields : (w : ℕ) → Own w (instructions w)
 own-fields w = all-own w (instructions w)
 
--- What reading gives has the word's fields
+-- What reading gives has the word's number and the word's fields
+pub read-numbered : (w : ℕ) (i : Instruction) → reading w ≡ (0, some i) → numbered (opcode w) (function w) (form i) ≡ true
+unfolding reading
+read-numbered w i e = found w (instructions w) i (own-fields w) e .0
+
 pub read-filled : (w : ℕ) (i : Instruction) → reading w ≡ (0, some i) → filled i w ≡ i
 unfolding reading
 read-filled w i e = found w (instructions w) i (own-fields w) e .1
