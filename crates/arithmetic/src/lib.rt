@@ -4,19 +4,17 @@ ghost use Prim.Native.Nat.{_<_, _≤_, _+_, _%_, _^_};
 ghost use lib.Signed.{ltZ, shrZ};
 ghost use lib.IntN.{pos, _+ℤ_, _-ℤ_};
 ghost use Rattle.arithmetic.specs.Rulings.{sext, shifted, high, integer, bit, compared, minus, beyond};
+use std::num::wrapping_add_u32;
 use words::Comparison;
 use words::Shift;
 
-// The lowest word that stands for a number below nothing.
+// 2^31, the lowest word that stands for a number below nothing.
 const SIGN: u32 = 2147483648;
 
 // The numbers that a word and its half can hold, 2^32 and 2^16.
 const RANGE: u64 = 4294967296;
 
 const HALF_RANGE: u32 = 65536;
-
-// The last word.
-const LAST: u32 = 4294967295;
 
 // The same numbers in the types that they are counted with.
 const RANGE_SIGNED: i64 = RANGE as i64;
@@ -31,15 +29,12 @@ pub fn sext_of(imm: i32) -> u32
     (lifted as u64 % RANGE) as u32
 }
 
-// Whether a is less than b as numbers in two's complement.
+// Whether a is less than b as numbers in two's complement: 2^31 is added to each side, modulo 2^32, and what results is
+// compared as unsigned.
 fn less(a: u32, b: u32) -> bool
     ensures { λ r. ⌜ r ≡ ltZ (integer a) (integer b) ⌝ }
 {
-    if a < SIGN {
-        if b < SIGN { a < b } else { false }
-    } else {
-        if b < SIGN { true } else { a < b }
-    }
+    wrapping_add_u32(a, SIGN) < wrapping_add_u32(b, SIGN)
 }
 
 // The shift of x by the low five bits of n.
@@ -55,16 +50,12 @@ pub fn shift(kind: Shift, x: u32, n: u32) -> u32
     }
 }
 
-// Right with copies of the sign.
+// Right with copies of the sign: 2^31 is added, modulo 2^32, and what the shift makes of it is taken off again.
 fn copying(x: u32, places: u32) -> u32
     requires { ⌜ places < 32 ⌝ }
     ensures { λ r. ⌜ r ≡ sext (shrZ (integer x) (2 ^ places)) ⌝ }
 {
-    if x < SIGN {
-        x >> places
-    } else {
-        LAST - ((LAST - x) >> places)
-    }
+    difference(wrapping_add_u32(x, SIGN) >> places, SIGN >> places)
 }
 
 // The low 16 bits of x times 65,536.
@@ -130,5 +121,5 @@ fn apart(x: u64, y: u64) -> bool
 fn lift(a: u32) -> u64
     ensures { λ r. ⌜ r ≡ (a + 2 ^ 31) % 2 ^ 32 ⌝ }
 {
-    std::num::wrapping_add_u32(a, SIGN) as u64
+    wrapping_add_u32(a, SIGN) as u64
 }

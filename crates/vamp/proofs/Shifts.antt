@@ -5,8 +5,9 @@ use native.Mathlib.Nat.{mod-lt, add-mul, lt-of-lt-of-le}
 use native.Mathlib.Omega.{arith}
 use lib.Pow.{pow-pos, pow-mono, shl-exact, shr-shr, split}
 use Rattle.words.specs.Fields.{signed}
-use Rattle.words.proofs.Signed.{signed-low, signed-high}
-use Rattle.arithmetic.specs.Rulings.{sext}
+use Rattle.words.proofs.Signed.{signed-small, lift-is}
+use Rattle.arithmetic.specs.Rulings.{minus, sext}
+use Rattle.arithmetic.proofs.Integers.{lowered}
 use Rattle.vamp.specs.Memory.{patch}
 use Rattle.vamp.proofs.Memory.{patch-below}
 
@@ -55,10 +56,5 @@ module _ (b k x v : ℕ) (lb : b ≤ 32) (lk : 8 * k + b ≤ 64) (lx : x < 2 ^ 6
   patched-fits = rw patched-is (patch-below b k 64 x v lx lk)
 
 -- A number below 2 h, its sign extended
-pub extended-low : (h x : ℕ) → x < h → x ≡ sext (signed h x)
-unfolding sext
-extended-low h x l = rw (signed-low h x l)
-
-pub extended-high : (h x : ℕ) → h ≤ x → x < 2 * h → h ≤ 2 ^ 15 → 4294967295 - (2 * h - 1 - x) ≡ sext (signed h x)
-unfolding sext
-extended-high h x l b s = rw (signed-high h x (2 * h - 1 - x) l (omega arith)) (omega arith)
+pub extended-is : (h x : ℕ) → x < 2 * h → h ≤ 2 ^ 15 → minus ((x + h) % (2 * h)) h ≡ sext (signed h x)
+extended-is h x b s = ap (λ (y : ℕ). minus y h) (lift-is h x b) ∙ lowered h (signed h x) (signed-small h x b) (omega arith)

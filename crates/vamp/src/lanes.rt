@@ -9,11 +9,9 @@ ghost use Rattle.machine.specs.Effects.{storeSize};
 ghost use Rattle.machine.specs.Record.{DOUBLE-WORDS, MEMORY};
 ghost use Rattle.vamp.specs.Memory.{part, patch, at, put, loaded, stored};
 ghost use Rattle.machine.specs.Effects.{unaligned};
+use arithmetic::difference;
 use words::LoadKind;
 use words::StoreKind;
-
-// The last word.
-const LAST: u32 = 4294967295;
 
 // lb and lh extend the sign, lbu and lhu by zeros.
 pub(crate) fn load(kind: LoadKind, memory: &[u64], address: u32) -> u32
@@ -41,12 +39,12 @@ pub(crate) fn store(kind: StoreKind, memory: &mut [u64], address: u32, value: u3
     }
 }
 
-// A number below 2 h with its sign extended.
+// A number below 2 h with its sign extended: the two halves of its range change places, and half the range is taken off again.
 fn extended(h: u32, x: u32) -> u32
     requires { ⌜ (x < 2 * h) × (h ≤ 2 ^ 15) ⌝ }
     ensures { λ r. ⌜ r ≡ sext (signed h x) ⌝ }
 {
-    if x < h { x } else { LAST - (2 * h - 1 - x) }
+    difference((x + h) % (2 * h), h)
 }
 
 // The b bits at an address.

@@ -1,7 +1,8 @@
 -- Two's complement over any half range h: what the field readers compute is the whole number that the definition names.
-use Prim.Native.Nat.{ℕ, zero, suc, _+_, _-_, _*_, _^_, _≤_, _<_}
+use Prim.Native.Nat.{ℕ, zero, suc, _+_, _-_, _*_, _%_, _^_, _≤_, _<_}
 use mathlib.Core.Path.{_≡_, refl, sym, ap, subst, _∙_}
 use mathlib.Core.Bool.{Bool, true, false, not, _&&_}
+use native.Mathlib.Nat.{mod-eq-of-lt, mod-eq-sub-mod}
 use native.Mathlib.Omega.{arith}
 use borrow.Author.Tests.{lt-ltb, le-ltb, le-leb, lt-leb, ltb-true, ltb-false, leb-true}
 use lib.Dec.{T, ltb, leb}
@@ -44,15 +45,18 @@ turned h x t b low high = by (ltb x h) refl
         let u : t + h ≡ x = high (ltb-false x h e) in
         shortfall t h (h - suc t) (omega arith) ∙ sym (signed-high h x (h - suc t) (ltb-false x h e) (omega arith))
 
--- What a field of at most 2 ^ 32 numbers means is held by an i32
-pub signed-fits : (h x : ℕ) → x < 2 * h → h ≤ 2 ^ 31 → SFits w32 (signed h x)
-signed-fits h x b l = by (ltb x h) refl
+-- It lies at most half the range from nothing, so that an i32 holds what a field of at most 2 ^ 32 numbers means
+pub signed-small : (h x : ℕ) → x < 2 * h → mag (signed h x) < h
+signed-small h x b = by (ltb x h) refl
   where
-    by : (s : Bool) → ltb x h ≡ s → SFits w32 (signed h x)
-    by true e = rw (signed-low h x (ltb-true x h e)) (record { sfits = let p : x < h = ltb-true x h e in omega arith })
+    by : (s : Bool) → ltb x h ≡ s → mag (signed h x) < h
+    by true e = rw (signed-low h x (ltb-true x h e)) (ltb-true x h e)
     by false e =
         let p : h ≤ x = ltb-false x h e in
-        rw (signed-high h x (2 * h - suc x) p (omega arith)) (record { sfits = omega arith })
+        rw (signed-high h x (2 * h - suc x) p (omega arith)) (omega arith)
+
+pub signed-fits : (h x : ℕ) → x < 2 * h → h ≤ 2 ^ 31 → SFits w32 (signed h x)
+signed-fits h x b l = record { sfits = let s : mag (signed h x) < h = signed-small h x b in omega arith }
 
 module _ (h x t : ℕ) (b : x < 2 * h) (s : h ≤ 2 ^ 31) (low : x < h → t ≡ x + h) (high : h ≤ x → t + h ≡ x) (u : t < 2 ^ 31) where
   reads : toZ w32 t -ℤ pos h ≡ signed h x
@@ -78,41 +82,46 @@ pub biased-sum : (h : ℕ) (z : ℤ) → mag z < h → z +ℤ pos h ≡ pos (bia
 biased-sum h (pos n) l = refl
 biased-sum h (negsuc n) l = rw (le-ltb h (suc n) (omega arith))
 
+-- So lifted, a field is what it means, and half the range
+pub lift-is : (h x : ℕ) → x < 2 * h → (x + h) % (2 * h) ≡ biased h (signed h x)
+lift-is h x b = by (ltb x h) refl
+  where
+    by : (s : Bool) → ltb x h ≡ s → (x + h) % (2 * h) ≡ biased h (signed h x)
+    by true e =
+        let p : x < h = ltb-true x h e in
+        rw (signed-low h x p) (mod-eq-of-lt (omega arith))
+    by false e =
+        let p : h ≤ x = ltb-false x h e in
+        rw (signed-high h x (2 * h - suc x) p (omega arith)) (mod-eq-sub-mod (omega arith) ∙ mod-eq-of-lt (omega arith) ∙ omega arith)
+
 module _ (h : ℕ) (z : ℤ) (small : mag z < h) (s : h ≤ 2 ^ 25) where
   sum : toZ w32 (ofZ w32 z) +ℤ toZ w32 h ≡ pos (biased h z)
   sum = rw (kept z (omega arith), toZ-pos w32 {n = h} (omega arith)) (biased-sum h z small)
 
-  bound : biased h z < 2 * h
-  bound = by z small
+  pub biased-below : biased h z < 2 * h
+  biased-below = by z small
     where
       by : (z : ℤ) → mag z < h → biased h z < 2 * h
       by (pos n) l = omega arith
       by (negsuc n) l = omega arith
 
   pub biased-fits : SFits w32 (toZ w32 (ofZ w32 z) +ℤ toZ w32 h)
-  biased-fits = rw sum (record { sfits = let b : biased h z < 2 * h = bound in omega arith })
+  biased-fits = rw sum (record { sfits = let b : biased h z < 2 * h = biased-below in omega arith })
 
   -- The sum is no less than nothing, so that its cast keeps it
   pub biased-is : toZ w32 (ofZ w32 (toZ w32 (ofZ w32 z) +ℤ toZ w32 h)) ≡ pos (biased h z)
   biased-is = toZ-ofZ biased-fits ∙ sum
 
   pub biased-cast : T (nonNeg (toZ w32 (ofZ w32 (toZ w32 (ofZ w32 z) +ℤ toZ w32 h)))) × Fits w32 (natAbs (toZ w32 (ofZ w32 (toZ w32 (ofZ w32 z) +ℤ toZ w32 h))))
-  biased-cast = rw biased-is (tt, record { fits = let b : biased h z < 2 * h = bound in omega arith })
+  biased-cast = rw biased-is (tt, record { fits = let b : biased h z < 2 * h = biased-below in omega arith })
 
   -- With the two halves exchanged it is the number modulo the range
-  pub modulus-low : biased h z < h → biased h z + h ≡ modulus (2 * h) (used z)
-  modulus-low l = by z l small
+  pub modulus-is : (biased h z + h) % (2 * h) ≡ modulus (2 * h) (used z)
+  modulus-is = by z small
     where
-      by : (z : ℤ) → biased h z < h → mag z < h → biased h z + h ≡ modulus (2 * h) (used z)
-      by (pos n) l small = absurd (omega arith)
-      by (negsuc n) l small = omega arith
-
-  pub modulus-high : h ≤ biased h z → biased h z - h ≡ modulus (2 * h) (used z)
-  modulus-high l = by z l small
-    where
-      by : (z : ℤ) → h ≤ biased h z → mag z < h → biased h z - h ≡ modulus (2 * h) (used z)
-      by (pos n) l small = omega arith
-      by (negsuc n) l small = absurd (omega arith)
+      by : (z : ℤ) → mag z < h → (biased h z + h) % (2 * h) ≡ modulus (2 * h) (used z)
+      by (pos n) l = mod-eq-sub-mod (omega arith) ∙ mod-eq-of-lt (omega arith) ∙ omega arith
+      by (negsuc n) l = mod-eq-of-lt (omega arith) ∙ omega arith
 
 -- A number of the range modulo the range
 pub modulus-below : (h : ℕ) (z : ℤ) → mag z < h → modulus (2 * h) (used z) < 2 * h

@@ -96,9 +96,5 @@ fn modulo(imm: i32, half: u32) -> u32
     ensures { λ r. ⌜ (r ≡ modulus (2 * half) (used imm)) × (r < 2 * half) ⌝ }
 {
     let turned = (imm + half as i32) as u32;
-    if turned < half {
-        turned + half
-    } else {
-        turned - half
-    }
+    (turned + half) % (2 * half)
 }
