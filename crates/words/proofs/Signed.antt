@@ -2,7 +2,7 @@
 use Prim.Native.Nat.{ℕ, zero, suc, _+_, _-_, _*_, _%_, _^_, _≤_, _<_}
 use mathlib.Core.Path.{_≡_, refl, sym, ap, subst, _∙_}
 use mathlib.Core.Bool.{Bool, true, false, not, _&&_}
-use native.Mathlib.Nat.{mod-eq-of-lt, mod-eq-sub-mod}
+use native.Mathlib.Nat.{mod-lt, mod-eq-of-lt, mod-eq-sub-mod}
 use native.Mathlib.Omega.{arith}
 use borrow.Author.Tests.{lt-ltb, le-ltb, le-leb, lt-leb, ltb-true, ltb-false, leb-true}
 use lib.Dec.{T, ltb, leb}
@@ -35,16 +35,6 @@ signed-low h x l = rw (lt-ltb x h l)
 pub signed-high : (h x d : ℕ) → h ≤ x → 2 * h ≡ suc (d + x) → signed h x ≡ negsuc d
 signed-high h x d l e = rw (le-ltb x h l) (shortfall x (2 * h) d e)
 
--- With the two halves of the range exchanged, half the range taken off gives what the field means
-pub turned : (h x t : ℕ) → x < 2 * h → (x < h → t ≡ x + h) → (h ≤ x → t + h ≡ x) → pos t -ℤ pos h ≡ signed h x
-turned h x t b low high = by (ltb x h) refl
-  where
-    by : (s : Bool) → ltb x h ≡ s → pos t -ℤ pos h ≡ signed h x
-    by true e = difference t h x (low (ltb-true x h e)) ∙ sym (signed-low h x (ltb-true x h e))
-    by false e =
-        let u : t + h ≡ x = high (ltb-false x h e) in
-        shortfall t h (h - suc t) (omega arith) ∙ sym (signed-high h x (h - suc t) (ltb-false x h e) (omega arith))
-
 -- It lies at most half the range from nothing, so that an i32 holds what a field of at most 2 ^ 32 numbers means
 pub signed-small : (h x : ℕ) → x < 2 * h → mag (signed h x) < h
 signed-small h x b = by (ltb x h) refl
@@ -58,22 +48,7 @@ signed-small h x b = by (ltb x h) refl
 pub signed-fits : (h x : ℕ) → x < 2 * h → h ≤ 2 ^ 31 → SFits w32 (signed h x)
 signed-fits h x b l = record { sfits = let s : mag (signed h x) < h = signed-small h x b in omega arith }
 
-module _ (h x t : ℕ) (b : x < 2 * h) (s : h ≤ 2 ^ 31) (low : x < h → t ≡ x + h) (high : h ≤ x → t + h ≡ x) (u : t < 2 ^ 31) where
-  reads : toZ w32 t -ℤ pos h ≡ signed h x
-  reads = rw (toZ-pos w32 u) (turned h x t b low high)
-
-  -- The difference fits its type, and its bits read back are what the field means
-  pub turned-fits : SFits w32 (toZ w32 t -ℤ pos h)
-  turned-fits = rw reads (signed-fits h x b s)
-
-  pub turned-reads : toZ w32 (ofZ w32 (toZ w32 t -ℤ pos h)) ≡ signed h x
-  turned-reads = toZ-ofZ turned-fits ∙ reads
-
--- A number in the range of an i32 is kept by its bits
-pub kept : (z : ℤ) → mag z < 2 ^ 31 → toZ w32 (ofZ w32 z) ≡ z
-kept z h = toZ-ofZ (record { sfits = h })
-
--- The other way: half the range added to a number of the range, by the number's sign
+-- Half the range added to a number of the range, by the number's sign; taken off again it leaves the number
 abbrev pub biased : ℕ → ℤ → ℕ
 biased h (pos n) = n + h
 biased h (negsuc n) = h - suc n
@@ -82,7 +57,11 @@ pub biased-sum : (h : ℕ) (z : ℤ) → mag z < h → z +ℤ pos h ≡ pos (bia
 biased-sum h (pos n) l = refl
 biased-sum h (negsuc n) l = rw (le-ltb h (suc n) (omega arith))
 
--- So lifted, a field is what it means, and half the range
+pub biased-less : (h : ℕ) (z : ℤ) → mag z < h → pos (biased h z) -ℤ pos h ≡ z
+biased-less h (pos n) l = difference (n + h) h n (omega arith)
+biased-less h (negsuc n) l = shortfall (h - suc n) h n (omega arith)
+
+-- With the two halves of its range exchanged a field is what it means, and half the range
 pub lift-is : (h x : ℕ) → x < 2 * h → (x + h) % (2 * h) ≡ biased h (signed h x)
 lift-is h x b = by (ltb x h) refl
   where
@@ -94,6 +73,24 @@ lift-is h x b = by (ltb x h) refl
         let p : h ≤ x = ltb-false x h e in
         rw (signed-high h x (2 * h - suc x) p (omega arith)) (mod-eq-sub-mod (omega arith) ∙ mod-eq-of-lt (omega arith) ∙ omega arith)
 
+module _ (h x : ℕ) (b : x < 2 * h) (s : h ≤ 2 ^ 30) where
+  reads : toZ w32 ((x + h) % (2 * h)) -ℤ pos h ≡ signed h x
+  reads =
+      let u : (x + h) % (2 * h) < 2 * h = mod-lt (x + h) (omega arith) in
+      rw (toZ-pos w32 {n = (x + h) % (2 * h)} (omega arith), lift-is h x b) (biased-less h (signed h x) (signed-small h x b))
+
+  -- So half the range taken off is a number that fits its type, and its bits read back are what the field means
+  pub turned-fits : SFits w32 (toZ w32 ((x + h) % (2 * h)) -ℤ pos h)
+  turned-fits = rw reads (signed-fits h x b (omega arith))
+
+  pub turned-reads : toZ w32 (ofZ w32 (toZ w32 ((x + h) % (2 * h)) -ℤ pos h)) ≡ signed h x
+  turned-reads = toZ-ofZ turned-fits ∙ reads
+
+-- A number in the range of an i32 is kept by its bits
+pub kept : (z : ℤ) → mag z < 2 ^ 31 → toZ w32 (ofZ w32 z) ≡ z
+kept z h = toZ-ofZ (record { sfits = h })
+
+-- The other way: what is made of a number
 module _ (h : ℕ) (z : ℤ) (small : mag z < h) (s : h ≤ 2 ^ 25) where
   sum : toZ w32 (ofZ w32 z) +ℤ toZ w32 h ≡ pos (biased h z)
   sum = rw (kept z (omega arith), toZ-pos w32 {n = h} (omega arith)) (biased-sum h z small)
