@@ -2,14 +2,13 @@
 use Rattle.std.specs.Prelude.{ℕ, ◌-◌, ◌≡◌, List, [], ◌∷◌, ◌++◌, pos, negsuc, length, replicate}
 use Rattle.std.proofs.Math.Option.{some}
 use Rattle.words.specs.Words.{reading}
-use Rattle.words.specs.Touches.{LINK}
 use Rattle.words.specs.declared.Instruction.{Instruction}
 use Rattle.words.specs.declared.Instruction.TheVariants.{Movi2s, ArithmeticRegister, CompareRegister, Trap, ArithmeticImmediate, Jr, Load}
 use Rattle.words.specs.declared.Arithmetic.TheVariants.{Addo, Add}
 use Rattle.words.specs.declared.Comparison.TheVariants.{Sge}
 use Rattle.words.specs.declared.LoadKind.TheVariants.{Lw}
 use Rattle.machine.specs.declared.Region.{Region}
-use Rattle.machine.specs.Effects.{State, register}
+use Rattle.machine.specs.Effects.{State, register, LINK}
 use Rattle.machine.specs.Record.{DOUBLE_WORDS}
 use Rattle.checker.specs.Checks.{violation, next}
 use Rattle.vamp.specs.Events.{stepped}

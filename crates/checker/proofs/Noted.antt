@@ -1,6 +1,7 @@
 -- The explanation by what is noted of the steps taken once more.
 use Rattle.std.proofs.Common.{◌≡◌, ℕ, zero, suc, ◌+◌, ◌-◌, ◌%◌, ◌<◌, ◌≤◌, Bool, true, false, eqb, ◌⊎◌, List, length, get_or, sym, refl, ap, ◌∙◌, inl, inr, arith, ne_eqb, eqb-true}
 use borrow.Author.Tests.{eqb-false}
+use Rattle.words.specs.Fields.{rs1}
 use Rattle.machine.specs.declared.Machine.{Machine}
 use Rattle.machine.specs.declared.Region.{Region}
 use Rattle.machine.specs.Effects.{State}
@@ -14,7 +15,7 @@ use Rattle.checker.specs.declared.Verdict.TheVariants.{Refused, Accepted, Violat
 use Rattle.checker.specs.declared.retracing.Retraced.{Retraced}
 use Rattle.checker.specs.declared.touches.Turn.{Turn}
 use Rattle.checker.specs.declared.touches.Turn.TheVariants.{On, Taken, By}
-use Rattle.checker.specs.Inner.{Room, breaks, Passed, Answered, Retraces, noted, noted_source}
+use Rattle.checker.specs.Inner.{Room, Passed, Answered, Retraces, noted, noted_source}
 use Rattle.checker.specs.Runs.{running, taking, verdict_answer}
 use Rattle.checker.specs.Seven.{turn, before, word_of, source_of, led, addressed, explanation, explaining}
 use Rattle.checker.proofs.Theorems.{Fine, First, ends, accepts, stops_at, answer, count, values}
@@ -66,13 +67,15 @@ module _ (m : Machine) (code ws : List ℕ) where
       by true e = rw e
       by false e =
           let d : k % 32 ≡ 0 → ⊥ = eqb-false (k % 32) 0 e in
-          rw e (h.3 (k % 32) (omega arith) (omega arith))
+          rw e (h.2 (k % 32) (omega arith) (omega arith))
 
-  pub addressed_by : (k : ℕ) (s : Source) (r : Retraced) → Retraces m code ws k r
-      → s ≡ noted_source m.code code r.steps r.places r.base
-      → because.Register r.base s ≡ addressed m.code m.«data» code (state_of m, ws) k
+  pub addressed_by : (k n w : ℕ) (s : Source) (r : Retraced) → Retraces m code ws k r → w ≡ word_at m.code code r.dpc → n ≡ rs1 w
+      → s ≡ noted_source m.code code r.steps r.places n
+      → because.Register n s ≡ addressed m.code m.«data» code (state_of m, ws) k
   unfolding addressed
-  addressed_by k s r h t = rw (t ∙ noted_source_lem r.base k r h, ← h.1)
+  addressed_by k n w s r h e b t =
+      let f : n ≡ rs1 (word_at m.code code r.dpc) = b ∙ ap rs1 e in
+      rw (t ∙ noted_source_lem n k r h, ← h.0, ← f)
 
   pub led_start : (k : ℕ) → k < 2 → because.Card ≡ led m.code m.«data» code (state_of m, ws) k
   unfolding led
@@ -92,7 +95,7 @@ module _ (m : Machine) (code ws : List ℕ) where
     led_word = e ∙ ap (word_at m.code code) h.0
 
     led_as : led m.code m.«data» code (state_of m, ws) k ≡ led_by m.code m.«data» code (state_of m, ws) t (k - 2)
-    led_as = led_turn k l ∙ ap (λ (u : Turn). led_by m.code m.«data» code (state_of m, ws) u (k - 2)) (sym (b ∙ ap (λ (v : ℕ). turn v r.gpr) led_word ∙ ap (turn (word_of m.code m.«data» code (state_of m, ws) (k - 2))) h.2))
+    led_as = led_turn k l ∙ ap (λ (u : Turn). led_by m.code m.«data» code (state_of m, ws) u (k - 2)) (sym (b ∙ ap (λ (v : ℕ). turn v r.gpr) led_word ∙ ap (turn (word_of m.code m.«data» code (state_of m, ws) (k - 2))) h.1))
 
     pub led_on : t ≡ On → because.RanOn ≡ led m.code m.«data» code (state_of m, ws) k
     led_on f = sym (rw f at led_as)
@@ -120,27 +123,26 @@ taking_answer n m code ws = refl
 -- A run answers accepted, or a violation before which no step breaks a test
 module _ (m : Machine) (code ws : List ℕ) (n : ℕ) (rc : Room m.code code) (rd : Room m.«data» ws) where
   ended : (a : ℕ × List ℕ) → a ≡ (running m.code m.«data» code 0 n (state_of m, ws)).0
-      → (length a.1 ≡ 1) ⊎ ((length a.1 ≡ 3) × Passed m code ws (get_or a.1 0 0) × (breaks m code ws (get_or a.1 0 0) ≡ a.0))
+      → (length a.1 ≡ 1) ⊎ ((length a.1 ≡ 3) × Passed m code ws (get_or a.1 0 0))
   ended a e = by (ends m.code m.«data» code n (state_of m, ws))
     where
       by : Fine m.code m.«data» code n (state_of m, ws) ⊎ First m.code m.«data» code n (state_of m, ws)
-          → (length a.1 ≡ 1) ⊎ ((length a.1 ≡ 3) × Passed m code ws (get_or a.1 0 0) × (breaks m code ws (get_or a.1 0 0) ≡ a.0))
+          → (length a.1 ≡ 1) ⊎ ((length a.1 ≡ 3) × Passed m code ws (get_or a.1 0 0))
       by (inl f) = inl (values _ _ (e ∙ answer m.code m.«data» code (accepts m.code m.«data» code 0 n (state_of m, ws) f)))
       by (inr f) =
           let s = e ∙ answer m.code m.«data» code (stops_at m.code m.«data» code 0 n f.0 _ (state_of m, ws) f.1 f.2 refl f.3) in
           let q : get_or a.1 0 0 ≡ 0 + f.0 = count m.code m.«data» code _ _ s in
-          let r : get_or a.1 0 0 ≡ f.0 = omega arith in
-          inr (values _ _ s, (rc, rd, λ j l. f.2 j (omega arith)), ap (breaks m code ws) r ∙ sym (ap (λ (o : ℕ × List ℕ). o.0) s))
+          inr (values _ _ s, (rc, rd, λ j l. f.2 j (omega arith)))
 
   pub answered : (v : Verdict) → verdict_answer v ≡ (running m.code m.«data» code 0 n (state_of m, ws)).0 → Answered m code ws v
   answered (Refused r) e = by (ended _ e)
     where
-      by : (◌≡◌ {A = ℕ} 0 1) ⊎ ((◌≡◌ {A = ℕ} 0 3) × Passed m code ws 0 × (breaks m code ws 0 ≡ r)) → ⊥
+      by : (◌≡◌ {A = ℕ} 0 1) ⊎ ((◌≡◌ {A = ℕ} 0 3) × Passed m code ws 0) → ⊥
       by (inl z) = absurd (omega arith)
       by (inr z) = let q = z.0 in absurd (omega arith)
   answered (Accepted k) e = tt
   answered (Violation v k x w) e = by (ended _ e)
     where
-      by : (◌≡◌ {A = ℕ} 3 1) ⊎ ((◌≡◌ {A = ℕ} 3 3) × Passed m code ws k × (breaks m code ws k ≡ v)) → Passed m code ws k × (breaks m code ws k ≡ v)
+      by : (◌≡◌ {A = ℕ} 3 1) ⊎ ((◌≡◌ {A = ℕ} 3 3) × Passed m code ws k) → Passed m code ws k
       by (inl z) = absurd (omega arith)
-      by (inr z) = (z.1, z.2)
+      by (inr z) = z.1

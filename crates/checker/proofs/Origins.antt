@@ -1,26 +1,25 @@
 -- What an explanation means: the named step is the true one, the register holds what it put there, DPC is what the transfer made of it.
-use Rattle.std.proofs.Common.{◌≡◌, ℕ, zero, suc, ◌%◌, ◌<◌, ◌≤◌, Bool, true, false, not, ◌||◌, eqb, ◌⊎◌, List, [], ◌∷◌, length, get_or, ℤ, sym, refl, ap, ◌∙◌, inl, inr, arith, eqb-true}
+use Rattle.std.proofs.Common.{◌≡◌, ℕ, zero, suc, ◌%◌, ◌<◌, ◌≤◌, Bool, true, false, not, ◌||◌, eqb, ◌⊎◌, List, [], ◌∷◌, length, get_or, set, ℤ, sym, refl, ap, ◌∙◌, inl, inr, arith, length-set, get_or-set_other, get_or-set_same, ne_eqb, eqb-true}
 use mathlib.Core.Option.{Option, none, some}
 use borrow.Author.Tests.{eqb-false, not-false}
-use Rattle.words.specs.Fields.{pick, opcode, function, rs1, immediate16, immediate26}
+use Rattle.words.specs.Fields.{pick, opcode, function, rs1, second, immediate16, immediate26}
 use Rattle.words.specs.Words.{form, numbered, reading}
-use Rattle.words.specs.Touches.{Touch, touches, number_of}
+use Rattle.words.specs.declared.LoadKind.TheVariants.{Lb, Lh, Lw, Lbu, Lhu}
+use Rattle.words.specs.declared.StoreKind.TheVariants.{Sb, Sh, Sw}
 use Rattle.words.specs.declared.Instruction.{Instruction}
 use Rattle.words.specs.declared.Instruction.TheVariants.{ShiftImmediate, ShiftRegister, Movs2i, Movi2s, ArithmeticRegister, Lhg, Clr, CompareRegister, Set, J, Jal, Trap, Rfe, Beqz, Bnez, ArithmeticImmediate, Lhgi, Jr, Jalr, Clri, CompareImmediate, Seti, Load, Store}
 use Rattle.words.specs.declared.Arithmetic.{Arithmetic}
 use Rattle.words.specs.declared.Arithmetic.TheVariants.{Addo, Add, Subo, Sub, And, Or, Xor}
 use Rattle.words.proofs.Again.{read_numbered}
 use Rattle.words.proofs.Signed.{false_true}
-use Rattle.words.proofs.Touched.{touched_legal}
 use Rattle.arithmetic.specs.Rulings.{plus, sext}
 use Rattle.machine.specs.declared.Effect.{Effect}
 use Rattle.machine.specs.declared.Effect.TheVariants as does
 use Rattle.machine.specs.declared.Machine.{Machine}
 use Rattle.machine.specs.declared.Region.{Region}
-use Rattle.machine.specs.Effects.{one_of, State, register, computed, meaning, applied, act, moved, illegal, access}
+use Rattle.machine.specs.Effects.{one_of, State, register, put, computed, meaning, applied, act, moved, illegal, access}
 use Rattle.machine.specs.Record.{first, state_of}
 use Rattle.machine.proofs.Acts.{word_reads, act_reads}
-use Rattle.machine.proofs.Touched.{value, general_length, general_kept, general_put}
 use Rattle.checker.specs.declared.Explanation.{Explanation}
 use Rattle.checker.specs.declared.Explanation.TheVariants as because
 use Rattle.checker.specs.declared.Source.{Source}
@@ -30,7 +29,7 @@ use Rattle.checker.specs.declared.touches.Turn.TheVariants.{On, Taken, By}
 use Rattle.checker.specs.Checks.{admits, foreign, fetched, violation, next, found}
 use Rattle.checker.specs.declared.Verdict.{Verdict}
 use Rattle.checker.specs.Runs.{after, verdict_answer, run_refusal, taking, runs}
-use Rattle.checker.specs.Seven.{target, base, turn, before, word_of, writes, last_writer, source_of, led, addressed, explanation, explaining}
+use Rattle.checker.specs.Seven.{target, turn, before, word_of, writes, last_writer, source_of, led, addressed, explanation, explaining}
 use Rattle.checker.proofs.Noted.{led_by}
 use Rattle.checker.proofs.Retrace.{after_last}
 use Rattle.checker.proofs.Tests.{Passes, passes}
@@ -134,41 +133,97 @@ module _ (c d : Region) (code : List ℕ) (p : State × List ℕ) where
 
 -- ---- The register holds what the named step put there
 
--- A register by its number is the one that is named
-named : (o : Option ℕ) (r : ℕ) → (r ≡ 0 → ⊥) → number_of o ≡ r → o ≡ some r
-named none r z e = absurd (z (sym e))
-named (some n) r z e = ap some e
+-- What an effect puts in the register that it writes, v being what a load found
+abbrev pub value : Effect → ℕ → ℕ
+value (does.Put n x) v = x
+value (does.PutSpecial n x) v = 0
+value (does.Sum n x o) v = x
+value (does.Load k n a) v = v
+value (does.Store k a x) v = 0
+value (does.Trap z) v = 0
+value does.Return v = 0
+value does.Nothing v = 0
+
+put_length : (g : List ℕ) (n x : ℕ) → length (put g n x) ≡ length g
+unfolding put
+put_length g n x = by (eqb (n % 32) 0)
+  where
+    by : (t : Bool) → length (pick t g (set g (n % 32) x)) ≡ length g
+    by true = refl
+    by false = length-set g (n % 32) x
+
+put_same : (g : List ℕ) (n x r : ℕ) → length g ≡ 32 → n % 32 ≡ r → (r ≡ 0 → ⊥) → get_or (put g n x) r 0 ≡ x
+unfolding put
+put_same g n x r l e z = rw (e, ne_eqb r 0 z) (get_or-set_same g r x 0 (omega arith))
+
+put_other : (g : List ℕ) (n x r : ℕ) → (n % 32 ≡ r → ⊥) → get_or (put g n x) r 0 ≡ get_or g r 0
+unfolding put
+put_other g n x r z = by (eqb (n % 32) 0)
+  where
+    by : (t : Bool) → get_or (pick t g (set g (n % 32) x)) r 0 ≡ get_or g r 0
+    by true = refl
+    by false = get_or-set_other g (n % 32) r x 0 (λ (q : r ≡ n % 32). z (sym q))
+
+module _ (v pc : ℕ) (g q : List ℕ) where
+  applied_length : (e : Effect) → length (applied e v pc g q).1 ≡ length g
+  unfolding applied
+  applied_length (does.Put n x) = put_length g n x
+  applied_length (does.PutSpecial n x) = refl
+  applied_length (does.Sum n x o) = put_length g n x
+  applied_length (does.Load k n a) = put_length g n v
+  applied_length (does.Store k a x) = refl
+  applied_length (does.Trap z) = refl
+  applied_length does.Return = refl
+  applied_length does.Nothing = refl
+
+  module _ (r : ℕ) (z : r ≡ 0 → ⊥) where
+    applied_put : (e : Effect) → length g ≡ 32 → target e ≡ r → get_or (applied e v pc g q).1 r 0 ≡ value e v
+    unfolding applied target
+    applied_put (does.Put n x) l t = put_same g n x r l t z
+    applied_put (does.PutSpecial n x) l t = absurd (z (sym t))
+    applied_put (does.Sum n x o) l t = put_same g n x r l t z
+    applied_put (does.Load k n a) l t = put_same g n v r l t z
+    applied_put (does.Store k a x) l t = absurd (z (sym t))
+    applied_put (does.Trap y) l t = absurd (z (sym t))
+    applied_put does.Return l t = absurd (z (sym t))
+    applied_put does.Nothing l t = absurd (z (sym t))
+
+    applied_kept : (e : Effect) → (target e ≡ r → ⊥) → get_or (applied e v pc g q).1 r 0 ≡ get_or g r 0
+    unfolding applied target
+    applied_kept (does.Put n x) t = put_other g n x r t
+    applied_kept (does.PutSpecial n x) t = refl
+    applied_kept (does.Sum n x o) t = put_other g n x r t
+    applied_kept (does.Load k n a) t = put_other g n v r t
+    applied_kept (does.Store k a x) t = refl
+    applied_kept (does.Trap y) t = refl
+    applied_kept does.Return t = refl
+    applied_kept does.Nothing t = refl
 
 module _ (c d : Region) (code : List ℕ) (p : State × List ℕ) where
-  -- What a load of step j finds, and what the step puts in the register that it writes
-  abbrev loaded : ℕ → ℕ
-  loaded j = found d (after c d code j p).1 (act (word_of c d code p j) (before c d code p j)).0
-
+  -- What step j puts in the register that it writes
   abbrev pub puts : ℕ → ℕ
-  puts j = value (act (word_of c d code p j) (before c d code p j)).0 (loaded j)
+  puts j = value (act (word_of c d code p j) (before c d code p j)).0 (found d (after c d code j p).1 (act (word_of c d code p j) (before c d code p j)).0)
 
-  step_state : (j : ℕ) → before c d code p (suc j) ≡ moved (word_of c d code p j) (loaded j) (before c d code p j)
-  unfolding next
+  -- The registers and the counters after step j
+  abbrev result : ℕ → ℕ × List ℕ × List ℕ
+  result j =
+      let s = before c d code p j in
+      let e = (act (word_of c d code p j) s).0 in
+      applied e (found d (after c d code j p).1 e) s.pc s.gpr s.spr
+
+  step_state : (j : ℕ) → before c d code p (suc j) ≡ record { dpc = (result j).0; pc = (act (word_of c d code p j) (before c d code p j)).1; gpr = (result j).1; spr = (result j).2 }
+  unfolding next moved
   step_state j = ap (λ (x : State × List ℕ). x.0) (after_last c d code j p)
 
-  registers : (j : ℕ) → (before c d code p (suc j)).gpr ≡ (moved (word_of c d code p j) (loaded j) (before c d code p j)).gpr
+  registers : (j : ℕ) → (before c d code p (suc j)).gpr ≡ (result j).1
   registers j = ap (λ (s : State). s.gpr) (step_state j)
 
   length_before : (j : ℕ) → length p.0.gpr ≡ 32 → length (before c d code p j).gpr ≡ 32
   unfolding after
   length_before zero l = l
-  length_before (suc j) l = ap length (registers j) ∙ general_length _ _ _ ∙ length_before j l
+  length_before (suc j) l = ap length (registers j) ∙ applied_length _ _ _ _ _ ∙ length_before j l
 
   module _ (r : ℕ) (z : r ≡ 0 → ⊥) where
-    -- A step that does not write the register leaves it, and one that does puts its value there
-    kept_by : (j : ℕ) → (writes c d code p j ≡ r → ⊥) → get_or (before c d code p (suc j)).gpr r 0 ≡ get_or (before c d code p j).gpr r 0
-    unfolding target
-    kept_by j h = ap (λ (g : List ℕ). get_or g r 0) (registers j) ∙ general_kept _ _ _ r (λ e. h (ap number_of e))
-
-    put_by : (j : ℕ) → length p.0.gpr ≡ 32 → writes c d code p j ≡ r → get_or (before c d code p (suc j)).gpr r 0 ≡ puts j
-    unfolding target
-    put_by j l e = ap (λ (g : List ℕ). get_or g r 0) (registers j) ∙ general_put _ _ _ r (named _ r z e) (length_before j l)
-
     kept_until : (j n : ℕ) → Unwritten c d code p r j n → j ≤ n → get_or (before c d code p n).gpr r 0 ≡ get_or (before c d code p j).gpr r 0
     kept_until j zero h l = let e : j ≡ 0 = omega arith in rw e
     kept_until j (suc n) h l = by (eqb j (suc n)) refl (kept_until j n)
@@ -179,7 +234,8 @@ module _ (c d : Region) (code : List ℕ) (p : State × List ℕ) where
         by true e rest = rw (eqb-true j (suc n) e)
         by false e rest =
             let y : j ≡ suc n → ⊥ = eqb-false j (suc n) e in
-            kept_by n (h n (omega arith) (omega arith))
+            ap (λ (g : List ℕ). get_or g r 0) (registers n)
+            ∙ applied_kept _ _ _ _ r z _ (h n (omega arith) (omega arith))
             ∙ rest (λ i a b. h i a (omega arith)) (omega arith)
 
   -- The value of a register at step k, by its source. R0 is 0 in every state of a run: `reads_zero`
@@ -198,7 +254,8 @@ module _ (c d : Region) (code : List ℕ) (p : State × List ℕ) where
       by (from.Step j x w) t =
           let b = t.1.earlier in
           kept_until (r % 32) t.0 (suc j) k t.1.last (omega arith)
-          ∙ put_by (r % 32) t.0 j l t.1.wrote
+          ∙ ap (λ (g : List ℕ). get_or g (r % 32) 0) (registers j)
+          ∙ applied_put _ _ _ _ (r % 32) t.0 _ (length_before j l) t.1.wrote
 
 -- ---- DPC is what the transfer made of it
 
@@ -210,10 +267,6 @@ Leads (By n) x pc g = x ≡ register g n
 
 -- The transfers, by their opcodes
 module _ (w : ℕ) where
-  base_reads : (i : Instruction) → reading w ≡ (0, some i) → base w ≡ get_or (touches i).0 0 0
-  unfolding base
-  base_reads i e = ap (λ (x : Touch). get_or x.0 0 0) (touched_legal w i e)
-
   reads_jal : opcode w ≡ 0x03 → reading w ≡ (0, some (Jal (immediate26 w)))
   unfolding reading
   reads_jal e = rw e
@@ -307,9 +360,9 @@ abbrev turns : ℕ → List ℕ → Bool → Bool → Bool → Bool → Turn
 turns w g jal jr beqz bnez =
     first
     ((jal, Taken)
-    ∷ (jr, By (base w))
-    ∷ (beqz, pick (eqb (register g (base w)) 0) Taken On)
-    ∷ (bnez, pick (not (eqb (register g (base w)) 0)) Taken On)
+    ∷ (jr, By (rs1 w))
+    ∷ (beqz, pick (eqb (register g (rs1 w)) 0) Taken On)
+    ∷ (bnez, pick (not (eqb (register g (rs1 w)) 0)) Taken On)
     ∷ []) On
 
 pub leads : (w : ℕ) (s : State) (i : Instruction) → reading w ≡ (0, some i) → admits i ≡ true → Leads (turn w s.gpr) (act w s).1 s.pc s.gpr
@@ -319,9 +372,9 @@ leads w s i e a = by (eqb (opcode w) 0x03) refl (eqb (opcode w) 0x16) refl (eqb 
     by : (jal : Bool) → eqb (opcode w) 0x03 ≡ jal → (jr : Bool) → eqb (opcode w) 0x16 ≡ jr → (beqz : Bool) → eqb (opcode w) 0x04 ≡ beqz → (bnez : Bool) → eqb (opcode w) 0x05 ≡ bnez
         → Leads (turns w s.gpr jal jr beqz bnez) (act w s).1 s.pc s.gpr
     by true f jr g beqz h bnez k = rw (act_reads w s _ (reads_jal w (eqb-true (opcode w) 0x03 f))) (immediate26 w, refl)
-    by false f true g beqz h bnez k = let q = reads_jr w (eqb-true (opcode w) 0x16 g) in rw (act_reads w s _ q, base_reads w _ q)
-    by false f false g true h bnez k = let q = reads_beqz w (eqb-true (opcode w) 0x04 h) in rw (act_reads w s _ q, base_reads w _ q) (branch s.pc s.gpr s.spr (eqb (register s.gpr (rs1 w)) 0) (immediate16 w))
-    by false f false g false h true k = let q = reads_bnez w (eqb-true (opcode w) 0x05 k) in rw (act_reads w s _ q, base_reads w _ q) (branch s.pc s.gpr s.spr (not (eqb (register s.gpr (rs1 w)) 0)) (immediate16 w))
+    by false f true g beqz h bnez k = rw (act_reads w s _ (reads_jr w (eqb-true (opcode w) 0x16 g)))
+    by false f false g true h bnez k = rw (act_reads w s _ (reads_beqz w (eqb-true (opcode w) 0x04 h))) (branch s.pc s.gpr s.spr (eqb (register s.gpr (rs1 w)) 0) (immediate16 w))
+    by false f false g false h true k = rw (act_reads w s _ (reads_bnez w (eqb-true (opcode w) 0x05 k))) (branch s.pc s.gpr s.spr (not (eqb (register s.gpr (rs1 w)) 0)) (immediate16 w))
     by false f false g false h false k = rw (act_reads w s i e) (onward s.pc s.gpr s.spr (opcode w) (function w) i (read_numbered w i e) a f g h k)
 
 -- A step that breaks no test runs one of the twenty
@@ -337,7 +390,6 @@ runs_own c d code s z = by (word_reads (fetched c code s)) (passes c d code s z)
 
 module _ (c d : Region) (code : List ℕ) (p : State × List ℕ) where
   dpc_old : (j : ℕ) → violation c d code (before c d code p j) ≡ 0 → (before c d code p (suc j)).dpc ≡ (before c d code p j).pc
-  unfolding moved
   dpc_old j z =
       let s = before c d code p j in
       let h = runs_own c d code s z in
@@ -347,7 +399,6 @@ module _ (c d : Region) (code : List ℕ) (p : State × List ℕ) where
 
   -- Two steps later, DPC is the PC' that step j made
   dpc_made : (j : ℕ) → Fine c d code (suc (suc j)) p → (before c d code p (suc (suc j))).dpc ≡ (act (word_of c d code p j) (before c d code p j)).1
-  unfolding moved
   dpc_made j f = dpc_old (suc j) (f (suc j) (omega arith)) ∙ ap (λ (x : State). x.pc) (step_state c d code p j)
 
   leads_word : (j : ℕ) → violation c d code (before c d code p j) ≡ 0
@@ -366,7 +417,7 @@ module _ (c d : Region) (code : List ℕ) (p : State × List ℕ) where
   -- What each explanation says of step k
   abbrev pub Tells : ℕ → Explanation → Type 0
   Tells k because.None = Unit {0}
-  Tells k (because.Register n s) = (n ≡ base (word_of c d code p k)) × True c d code p n k s × Holds c d code p n k s
+  Tells k (because.Register n s) = (n ≡ rs1 (word_of c d code p k)) × True c d code p n k s × Holds c d code p n k s
   Tells k because.Card = ((k ≡ 0) × ((before c d code p k).dpc ≡ p.0.dpc)) ⊎ ((k ≡ 1) × ((before c d code p k).dpc ≡ p.0.pc))
   Tells k because.RanOn = (j : ℕ) × (k ≡ suc j) × ((before c d code p k).dpc ≡ plus (before c d code p j).dpc 4)
   Tells k (because.Transfer j x w) = Transfer k j x w × ((z : ℤ) × ((before c d code p k).dpc ≡ plus (before c d code p j).pc (sext z)))
@@ -435,49 +486,71 @@ module _ (c d : Region) (code : List ℕ) (p : State × List ℕ) where
 -- ---- The address of a load or store is RS1 and an immediate
 
 abbrev pub AtBase : ℕ → List ℕ → Option (ℕ × ℕ) → Type 0
-AtBase b g none = Unit {0}
-AtBase b g (some x) = (z : ℤ) × (x.1 ≡ plus (register g b) (sext z))
+AtBase w g none = Unit {0}
+AtBase w g (some x) = (z : ℤ) × (x.1 ≡ plus (register g (rs1 w)) (sext z))
 
-module _ (pc : ℕ) (g q : List ℕ) where
-  no_access : (m : Arithmetic) (b rd x y : ℕ) → AtBase b g (access (computed m rd x y))
+module _ (w : ℕ) where
+  reads_lw : opcode w ≡ 0x23 → reading w ≡ (0, some (Load Lw (second w) (rs1 w) (immediate16 w)))
+  unfolding reading
+  reads_lw e = rw e
+
+  reads_sw : opcode w ≡ 0x2B → reading w ≡ (0, some (Store Sw (rs1 w) (immediate16 w) (second w)))
+  unfolding reading
+  reads_sw e = rw e
+
+module _ (w pc : ℕ) (g q : List ℕ) where
+  no_access : (m : Arithmetic) (rd a b : ℕ) → AtBase w g (access (computed m rd a b))
   unfolding access
-  no_access Addo b rd x y = tt
-  no_access Add b rd x y = tt
-  no_access Subo b rd x y = tt
-  no_access Sub b rd x y = tt
-  no_access And b rd x y = tt
-  no_access Or b rd x y = tt
-  no_access Xor b rd x y = tt
+  no_access Addo rd a b = tt
+  no_access Add rd a b = tt
+  no_access Subo rd a b = tt
+  no_access Sub rd a b = tt
+  no_access And rd a b = tt
+  no_access Or rd a b = tt
+  no_access Xor rd a b = tt
 
-  from_first : (i : Instruction) → AtBase (get_or (touches i).0 0 0) g (access (meaning i pc g q).0)
-  unfolding meaning access
-  from_first (ShiftImmediate s rd r sa) = tt
-  from_first (ShiftRegister s rd r k) = tt
-  from_first (Movs2i rd sa) = tt
-  from_first (Movi2s sa r) = tt
-  from_first (ArithmeticRegister m rd r k) = no_access m r rd (register g r) (register g k)
-  from_first (Lhg rd r) = tt
-  from_first (Clr rd) = tt
-  from_first (CompareRegister k rd r m) = tt
-  from_first (Set rd) = tt
-  from_first (J imm) = tt
-  from_first (Jal imm) = tt
-  from_first (Trap imm) = tt
-  from_first Rfe = tt
-  from_first (Beqz r imm) = tt
-  from_first (Bnez r imm) = tt
-  from_first (ArithmeticImmediate m rd r imm) = no_access m r rd (register g r) (sext imm)
-  from_first (Lhgi rd imm) = tt
-  from_first (Jr r) = tt
-  from_first (Jalr r) = tt
-  from_first (Clri rd) = tt
-  from_first (CompareImmediate k rd r imm) = tt
-  from_first (Seti rd) = tt
-  from_first (Load k rd r imm) = (imm, refl)
-  from_first (Store k r imm rd) = (imm, refl)
+  -- Of the twenty only lw and sw reach the data
+  no_other : (o f : ℕ) (i : Instruction) → numbered o f (form i) ≡ true → admits i ≡ true → eqb o 0x23 ≡ false → eqb o 0x2B ≡ false → AtBase w g (access (meaning i pc g q).0)
+  unfolding meaning access admits
+  no_other o f (ShiftImmediate s rd r sa) n a lw sw = tt
+  no_other o f (ShiftRegister s rd r k) n a lw sw = tt
+  no_other o f (Movs2i rd sa) n a lw sw = tt
+  no_other o f (Movi2s sa r) n a lw sw = tt
+  no_other o f (ArithmeticRegister m rd r k) n a lw sw = no_access m rd (register g r) (register g k)
+  no_other o f (Lhg rd r) n a lw sw = tt
+  no_other o f (Clr rd) n a lw sw = tt
+  no_other o f (CompareRegister k rd r m) n a lw sw = tt
+  no_other o f (Set rd) n a lw sw = tt
+  no_other o f (J imm) n a lw sw = tt
+  no_other o f (Jal imm) n a lw sw = tt
+  no_other o f (Trap imm) n a lw sw = tt
+  no_other o f Rfe n a lw sw = tt
+  no_other o f (Beqz r imm) n a lw sw = tt
+  no_other o f (Bnez r imm) n a lw sw = tt
+  no_other o f (ArithmeticImmediate m rd r imm) n a lw sw = no_access m rd (register g r) (sext imm)
+  no_other o f (Lhgi rd imm) n a lw sw = tt
+  no_other o f (Jr r) n a lw sw = tt
+  no_other o f (Jalr r) n a lw sw = tt
+  no_other o f (Clri rd) n a lw sw = tt
+  no_other o f (CompareImmediate k rd r imm) n a lw sw = tt
+  no_other o f (Seti rd) n a lw sw = tt
+  no_other o f (Load Lb rd r imm) n a lw sw = absurd (false_true a)
+  no_other o f (Load Lh rd r imm) n a lw sw = absurd (false_true a)
+  no_other o f (Load Lw rd r imm) n a lw sw = absurd (false_true (sym lw ∙ n))
+  no_other o f (Load Lbu rd r imm) n a lw sw = absurd (false_true a)
+  no_other o f (Load Lhu rd r imm) n a lw sw = absurd (false_true a)
+  no_other o f (Store Sb r imm rd) n a lw sw = absurd (false_true a)
+  no_other o f (Store Sh r imm rd) n a lw sw = absurd (false_true a)
+  no_other o f (Store Sw r imm rd) n a lw sw = absurd (false_true (sym sw ∙ n))
 
-pub at_base : (w : ℕ) (s : State) (i : Instruction) → reading w ≡ (0, some i) → AtBase (base w) s.gpr (access (act w s).0)
-at_base w s i e = rw (act_reads w s i e, base_reads w i e) (from_first s.pc s.gpr s.spr i)
+pub at_base : (w : ℕ) (s : State) (i : Instruction) → reading w ≡ (0, some i) → admits i ≡ true → AtBase w s.gpr (access (act w s).0)
+unfolding meaning access
+at_base w s i e a = by (eqb (opcode w) 0x23) refl (eqb (opcode w) 0x2B) refl
+  where
+    by : (lw : Bool) → eqb (opcode w) 0x23 ≡ lw → (sw : Bool) → eqb (opcode w) 0x2B ≡ sw → AtBase w s.gpr (access (act w s).0)
+    by true f sw g = rw (act_reads w s _ (reads_lw w (eqb-true (opcode w) 0x23 f))) (immediate16 w, refl)
+    by false f true g = rw (act_reads w s _ (reads_sw w (eqb-true (opcode w) 0x2B g))) (immediate16 w, refl)
+    by false f false g = rw (act_reads w s i e) (no_other w s.pc s.gpr s.spr (opcode w) (function w) i (read_numbered w i e) a f g)
 
 -- ---- So what a run explains is so: the explanation that goes with its violation v at step k
 

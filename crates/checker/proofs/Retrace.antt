@@ -1,46 +1,44 @@
 -- The steps of a run taken once more: the state they lead to, and the last writer of each register.
-use Rattle.std.proofs.Common.{◌≡◌, ℕ, zero, suc, ◌+◌, ◌%◌, ◌<◌, ◌≤◌, Bool, true, false, eqb, List, [], ◌∷◌, length, get_or, set, replicate, sym, refl, ap, ◌∙◌, subst, add-one, arith, get_or-set_other, get_or-set_same, le-ltb, eq-eqb, eqb-true}
-use mathlib.Core.Option.{none}
+use Rattle.std.proofs.Common.{◌≡◌, ℕ, zero, suc, ◌+◌, ◌%◌, ◌<◌, Bool, true, false, eqb, List, [], ◌∷◌, length, get_or, set, replicate, sym, refl, ap, ◌∙◌, add-one, arith, get_or-set_other, get_or-set_same, eq-eqb, eqb-true}
+use mathlib.Core.Option.{none, some}
 use borrow.Author.Tests.{eqb-false}
 use lib.ListN.{get_or-replicate}
+use Rattle.machine.specs.declared.Effect.{Effect}
+use Rattle.machine.specs.declared.Effect.TheVariants as does
 use Rattle.machine.specs.declared.Region.{Region}
 use Rattle.words.specs.Words.{reading}
-use Rattle.words.specs.Touches.{Touch, touched, number_of, reads_of, writes_of, touches_of_lem}
-use Rattle.words.specs.declared.Touches.{Touches}
-use Rattle.words.proofs.Touched.{touched_illegal}
-use Rattle.machine.specs.Effects.{State}
-use Rattle.machine.proofs.Touched.{number_below}
+use Rattle.words.specs.declared.Instruction.{Instruction}
+use Rattle.machine.specs.Effects.{State, act, meaning}
+use Rattle.machine.proofs.Acts.{act_reads, act_illegal}
 use Rattle.checker.specs.Checks.{fetched, violation, next}
-use Rattle.checker.specs.Runs.{verdict_answer, told, running, after}
-use Rattle.checker.specs.Seven.{target, base, before, word_of, writes, last_writer}
-use Rattle.checker.specs.Inner.{Looked, noted_of}
-use Rattle.checker.specs.declared.Verdict.{Verdict}
-use Rattle.checker.specs.declared.Verdict.TheVariants.{Accepted, Violation}
-use Rattle.checker.proofs.Theorems.{verdict_decides}
-use Rattle.checker.proofs.Fold.{run_on, run_stop, run_end}
+use Rattle.checker.specs.Runs.{running, after}
+use Rattle.checker.specs.Seven.{target, before, writes, last_writer}
+use Rattle.checker.specs.Inner.{noted_of}
+use Rattle.checker.proofs.Fold.{run_on, run_end}
 
--- The register that a word writes is one of the 32
-target_below : (w : ℕ) → target w < 32
+pub target_below : (e : Effect) → target e < 32
 unfolding target
-target_below w = number_below w
+target_below (does.Put n x) = omega arith
+target_below (does.PutSpecial n x) = omega arith
+target_below (does.Sum n x o) = omega arith
+target_below (does.Load k n a) = omega arith
+target_below (does.Store k a x) = omega arith
+target_below (does.Trap z) = omega arith
+target_below does.Return = omega arith
+target_below does.Nothing = omega arith
 
-pub target_small : (r w : ℕ) → r ≡ target w → r % 32 ≡ target w
-target_small r w q = let l = target_below w in omega arith
+pub target_small : (r : ℕ) (e : Effect) → r ≡ target e → r % 32 ≡ target e
+target_small r e q = let l = target_below e in omega arith
 
--- The registers that a word touches, by what its reading has of them
-module _ (w : ℕ) (t : Touches) (e : touches_of_lem t ≡ touched w) where
-  pub wrote_by : number_of (writes_of t.writes) ≡ target w
+-- The register that a word writes, by its reading
+module _ (w : ℕ) (s : State) where
+  pub writes_none : reading w ≡ (23, none) → 0 ≡ target (act w s).0
   unfolding target
-  wrote_by = ap (λ (x : Touch). number_of x.1) e
+  writes_none e = rw (act_illegal w s e)
 
-  pub base_by : get_or (reads_of t.reads) 0 0 ≡ base w
-  unfolding base
-  base_by = ap (λ (x : Touch). get_or x.0 0 0) e
-
--- An illegal word reads none
-pub base_illegal : (w : ℕ) → reading w ≡ (23, none) → 0 ≡ base w
-unfolding base
-base_illegal w e = ap (λ (x : Touch). get_or x.0 0 0) (sym (touched_illegal w e))
+  pub writes_by : (i : Instruction) → reading w ≡ (0, some i) → (e : Effect) (n : ℕ) → ◌≡◌ {A = Effect × ℕ} (e, n) (meaning i s.pc s.gpr s.spr)
+      → target e ≡ target (act w s).0
+  writes_by i r e n m = ap (λ (a : Effect × ℕ). target a.0) (m ∙ sym (act_reads w s i r))
 
 -- The last of k + 1 steps comes after k steps
 module _ (c d : Region) (code : List ℕ) where
@@ -55,7 +53,7 @@ module _ (c d : Region) (code : List ℕ) (p : State × List ℕ) where
   after_none = refl
 
   -- What the first step writes
-  pub wrote_first : writes c d code p 0 ≡ target (fetched c code p.0)
+  pub wrote_first : writes c d code p 0 ≡ target (act (fetched c code p.0) p.0).0
   unfolding after
   wrote_first = refl
 
@@ -63,20 +61,11 @@ module _ (c d : Region) (code : List ℕ) (p : State × List ℕ) where
   pub after_on : (n : ℕ) (x q : State × List ℕ) → x ≡ after c d code n p → q ≡ next c d code x → q ≡ after c d code (n + 1) p
   after_on n x q e f = f ∙ ap (next c d code) e ∙ sym (after_last c d code n p) ∙ ap (λ (k : ℕ). after c d code k p) (sym (add-one n))
 
-  pub wrote_on : (n r : ℕ) (x : State × List ℕ) → x ≡ after c d code n p → r ≡ target (fetched c code x.0)
+  pub wrote_on : (n r : ℕ) (x : State × List ℕ) → x ≡ after c d code n p → r ≡ target (act (fetched c code x.0) x.0).0
       → (k : ℕ) → n + 1 ≡ suc k → r ≡ writes c d code p k
   wrote_on n r x e w k l =
       let q : n ≡ k = omega arith in
-      w ∙ ap (λ (y : State × List ℕ). target (fetched c code y.0)) e ∙ ap (λ (j : ℕ). writes c d code p j) q
-
-  -- The first register that the word of step n reads, where it is taken or stopped from the state x
-  pub base_on : (n b : ℕ) (x : State × List ℕ) → x ≡ after c d code n p → b ≡ base (fetched c code x.0) → (k : ℕ) → n + 1 ≡ suc k → b ≡ base (word_of c d code p k)
-  base_on n b x e w k l =
-      let q : n ≡ k = omega arith in
-      w ∙ ap (λ (y : State × List ℕ). base (fetched c code y.0)) e ∙ ap (λ (j : ℕ). base (word_of c d code p j)) q
-
-  pub base_stop : (n v b : ℕ) (x : State × List ℕ) → x ≡ after c d code n p → b ≡ told v (base (fetched c code x.0)) → b ≡ told v (base (word_of c d code p n))
-  base_stop n v b x e w = w ∙ ap (λ (y : State × List ℕ). told v (base (fetched c code y.0))) e
+      w ∙ ap (λ (y : State × List ℕ). target (act (fetched c code y.0) y.0).0) e ∙ ap (λ (j : ℕ). writes c d code p j) q
 
   -- A run of one step that breaks no test, after n steps
   module _ (n : ℕ) (x q : State × List ℕ) (a : ℕ × List ℕ) (e : x ≡ after c d code n p) (v : violation c d code (after c d code n p).0 ≡ 0)
@@ -89,27 +78,6 @@ module _ (c d : Region) (code : List ℕ) (p : State × List ℕ) where
 
     pub one_taken : get_or a.1 0 0 ≡ 1
     one_taken = ap (λ (o : (ℕ × List ℕ) × (State × List ℕ)). get_or o.0.1 0 0) one_step
-
-  -- A run of one step, after n steps, that fetches its word: the first register that the word reads
-  pub one_looked : (n b : ℕ) (x q : State × List ℕ) (v : Verdict) → x ≡ after c d code n p
-      → ◌≡◌ {A = (ℕ × List ℕ) × (State × List ℕ)} (verdict_answer v, q) (running c d code 0 1 x)
-      → Looked (λ k. base (word_of c d code x k)) v b
-      → (0 < violation c d code (after c d code n p).0 → 23 ≤ violation c d code (after c d code n p).0)
-      → b ≡ base (word_of c d code p n)
-  unfolding after
-  one_looked n b x q v e r h f = by (violation c d code x.0) refl ∙ ap (λ (y : State × List ℕ). base (fetched c code y.0)) e
-    where
-      answer : {o : (ℕ × List ℕ) × (State × List ℕ)} → running c d code 0 1 x ≡ o → verdict_answer v ≡ o.0
-      answer z = ap (λ (o : (ℕ × List ℕ) × (State × List ℕ)). o.0) (r ∙ z)
-
-      by : (u : ℕ) → violation c d code x.0 ≡ u → b ≡ base (fetched c code x.0)
-      by zero z =
-          subst (λ (u : Verdict). Looked (λ k. base (word_of c d code x k)) u b) (verdict_decides v (Accepted 1) (answer (run_on c d code x 0 0 z ∙ run_end c d code (next c d code x) 1))) h 0 refl
-      by (suc u) z =
-          let l : 23 ≤ suc u = subst (λ (y : ℕ). 0 < y → 23 ≤ y) (ap (λ (y : State × List ℕ). violation c d code y.0) (sym e) ∙ z) f (omega arith) in
-          subst (λ (u : Verdict). Looked (λ k. base (word_of c d code x k)) u b)
-          (verdict_decides v (Violation (suc u) 0 x.0.dpc (told (suc u) (fetched c code x.0))) (answer (run_stop c d code x 0 0 (suc u) z (omega arith)))) h
-          ∙ rw (le-ltb (suc u) 23 l)
 
   -- What is noted after n steps
   abbrev pub Notes : List ℕ → List ℕ → ℕ → Type 0
@@ -134,7 +102,7 @@ module _ (c d : Region) (code : List ℕ) (p : State × List ℕ) where
 
   -- Step n taken, from the state x
   pub notes_on : (n t : ℕ) (steps places : List ℕ) (x : State × List ℕ) → x ≡ after c d code n p → length steps ≡ 32 → length places ≡ 32 → t < 32
-      → t ≡ target (fetched c code x.0) → Notes steps places n → Notes (set steps t (n + 1)) (set places t x.0.dpc) (n + 1)
+      → t ≡ target (act (fetched c code x.0) x.0).0 → Notes steps places n → Notes (set steps t (n + 1)) (set places t x.0.dpc) (n + 1)
   notes_on n t steps places x e ls lp b w h =
       rw (ap (λ (y : State × List ℕ). y.0.dpc) e)
-      (notes_more n t steps places ls lp b (w ∙ ap (λ (y : State × List ℕ). target (fetched c code y.0)) e) h)
+      (notes_more n t steps places ls lp b (w ∙ ap (λ (y : State × List ℕ). target (act (fetched c code y.0) y.0).0) e) h)

@@ -1,11 +1,11 @@
 -- Document 02, request Seven: say where the bad address came from. All of it is over the machine's own steps: step j of a run from p takes the state `after` j steps.
 use Rattle.std.specs.Prelude.{ℕ, zero, suc, ◌%◌, not, List, [], ◌∷◌, ◌==◌, slice_index}
-use Rattle.words.specs.Fields.{pick, opcode}
-use Rattle.words.specs.Touches as touch
-use Rattle.words.specs.Touches.{number_of}
+use Rattle.words.specs.Fields.{pick, opcode, rs1}
+use Rattle.machine.specs.declared.Effect.{Effect}
+use Rattle.machine.specs.declared.Effect.TheVariants as does
 use Rattle.machine.specs.declared.Machine.{Machine}
 use Rattle.machine.specs.declared.Region.{Region}
-use Rattle.machine.specs.Effects.{one_of, State, register}
+use Rattle.machine.specs.Effects.{one_of, State, act, register}
 use Rattle.machine.specs.Record.{state_of, first}
 use Rattle.checker.specs.declared.Source.{Source}
 use Rattle.checker.specs.declared.Source.TheVariants as from
@@ -16,24 +16,27 @@ use Rattle.checker.specs.declared.touches.Turn.TheVariants.{On, Taken, By}
 use Rattle.checker.specs.Checks.{fetched}
 use Rattle.checker.specs.Runs.{after}
 
--- ---- What a word writes and reads, as the reader names it (request Six), and how it leaves PC'
+-- ---- What a step writes, and how it leaves PC'
 
--- The general register that a word writes, 0 for none
-unfoldable pub target : ℕ → ℕ
-target w = number_of (touch.writes w)
-
--- RS1, the first general register that a word reads, 0 for none
-unfoldable pub base : ℕ → ℕ
-base w = slice_index (touch.reads w) 0
+-- The general register that an effect writes: a value or a sum that is put, a load. 0 where it writes none: R0 is never written
+unfoldable pub target : Effect → ℕ
+target (does.Put n x) = n % 32
+target (does.PutSpecial n x) = 0
+target (does.Sum n x o) = n % 32
+target (does.Load k n a) = n % 32
+target (does.Store k a x) = 0
+target (does.Trap z) = 0
+target does.Return = 0
+target does.Nothing = 0
 
 -- A taken transfer, by its opcode: jal; jr, with its register; beqz or bnez whose condition holds. Any other word goes on
 unfoldable pub turn : ℕ → List ℕ → Turn
 turn w g =
     first
     (((opcode w == 0x03), Taken)
-    ∷ ((opcode w == 0x16), By (base w))
-    ∷ ((opcode w == 0x04), pick (register g (base w) == 0) Taken On)
-    ∷ ((opcode w == 0x05), pick (not (register g (base w) == 0)) Taken On)
+    ∷ ((opcode w == 0x16), By (rs1 w))
+    ∷ ((opcode w == 0x04), pick (register g (rs1 w) == 0) Taken On)
+    ∷ ((opcode w == 0x05), pick (not (register g (rs1 w) == 0)) Taken On)
     ∷ []) On
 
 -- ---- The steps of a run from p
@@ -47,7 +50,7 @@ module _ (c d : Region) (code : List ℕ) (p : State × List ℕ) where
   word_of j = fetched c code (before j)
 
   abbrev pub writes : ℕ → ℕ
-  writes j = target (word_of j)
+  writes j = target (act (word_of j) (before j)).0
 
   -- The last step before step k that wrote register r, with its DPC and its word, or "card" if none did
   unfoldable pub last_writer : ℕ → ℕ → Source
@@ -71,7 +74,7 @@ module _ (c d : Region) (code : List ℕ) (p : State × List ℕ) where
 
   -- 25 and 26 at step k: the source of RS1 of its word
   unfoldable pub addressed : ℕ → Explanation
-  addressed k = because.Register (base (word_of k)) (source_of (base (word_of k)) k)
+  addressed k = because.Register (rs1 (word_of k)) (source_of (rs1 (word_of k)) k)
 
   -- The explanation of violation v at step k. Other violations get none
   unfoldable pub explanation : ℕ → ℕ → Explanation

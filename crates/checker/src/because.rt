@@ -1,12 +1,12 @@
 // Where the bad address of a violation came from: the run's steps are taken once more, with the last writers noted.
 ghost use Rattle.std.specs.Prelude.{◌≡◌};
 ghost use Rattle.machine.specs.Record.{state_of};
-ghost use Rattle.checker.specs.Inner.{breaks, Passed, Fetches, Answered, noted_source};
+ghost use Rattle.checker.specs.Inner.{Passed, Answered, noted_source};
 ghost use Rattle.checker.specs.Runs.{verdict_answer};
 ghost use Rattle.checker.specs.Seven.{led as led_lem, addressed as addressed_lem, explanation, explaining};
 
 use crate::retracing::{retrace, word_at};
-use crate::touches::{Turn, turned};
+use crate::touches::{Turn, rs1, turned};
 use crate::{Explanation, Source, Verdict};
 use machine::{Machine, Region};
 
@@ -35,7 +35,7 @@ fn explain_at(
     code: &[u32],
     words: &mut [u32],
 ) -> Explanation
-    requires { Passed machine code.now words.old step × (breaks machine code.now words.old step ≡ number) }
+    requires { Passed machine code.now words.old step }
     ensures { result ≡ explanation machine.code machine.«data» code.now (state_of machine, words.old) number step }
 {
     match number {
@@ -60,7 +60,7 @@ fn led(machine: Machine, step: u32, code: &[u32], words: &mut [u32]) -> Explanat
     let steps = retraced.steps;
     let places = retraced.places;
     let word = word_at(machine.code, dpc, code);
-    let turn = turned(word, retraced.base, &gpr);
+    let turn = turned(word, &gpr);
     match turn {
         Turn::On => Explanation::RanOn,
         Turn::Taken => Explanation::Transfer(at, dpc, word),
@@ -76,13 +76,13 @@ fn led(machine: Machine, step: u32, code: &[u32], words: &mut [u32]) -> Explanat
 
 // What the address of a step was made of: for 25 and 26.
 fn addressed(machine: Machine, step: u32, code: &[u32], words: &mut [u32]) -> Explanation
-    requires { Passed machine code.now words.old step × Fetches machine code.now words.old step }
+    requires { Passed machine code.now words.old step }
     ensures { result ≡ addressed_lem machine.code machine.«data» code.now (state_of machine, words.old) step }
 {
     let retraced = retrace(machine, step, code, words);
     let steps = retraced.steps;
     let places = retraced.places;
-    let number = retraced.base;
+    let number = rs1(word_at(machine.code, retraced.dpc, code));
     Explanation::Register(
         number,
         source_of(number, machine.code, &steps, &places, code),

@@ -6,19 +6,19 @@ ghost use Rattle.checker.specs.Checks.{outside, found, left};
 ghost use Rattle.checker.specs.Inner.{Room, Stepped, Offset, mode_number, access_number};
 
 use crate::admitted::admits;
-use crate::touches::{first_of, number_of};
+use crate::touches::written;
 use machine::refusals::contains;
 use machine::sizes::{load_askew, store_askew};
 use machine::{Effect, Machine, Region};
 use std::num::wrapping_sub_u64;
 use words::Reading;
 
-// A step taken, with the new counters, the general register that it wrote and the first that it read (0 for none), or stopped,
-// with the number of the test, the word, and the first register that it reads.
+// A step taken, with the new counters and the general register that it wrote (0 for none), or stopped, with the number of the
+// test and the word.
 #[derive(Drop)]
 pub(crate) enum Moved {
-    On(u32, u32, u8, u8),
-    Stopped(u32, u32, u8),
+    On(u32, u32, u8),
+    Stopped(u32, u32),
 }
 
 // One step: it changes the registers and the data where no test is broken, and nothing otherwise.
@@ -36,33 +36,30 @@ pub(crate) fn step(
     ensures { Stepped fetches accesses code.now dpc pc gpr.old spr.old words.old result gpr.new spr.new words.new }
 {
     if dpc % 4 != 0 {
-        return Moved::Stopped(21, 0, 0);
+        return Moved::Stopped(21, 0);
     }
     let offset = offset_of(fetches, dpc);
     if 4 * (fetches.words as u64) <= offset {
-        return Moved::Stopped(22, 0, 0);
+        return Moved::Stopped(22, 0);
     }
     let at = (offset / 4) as usize;
     let word = code[at];
     let reading = words::read(word);
     match reading {
-        Reading::Illegal => Moved::Stopped(23, word, 0),
-        Reading::Legal(instruction, touches) => {
-            let reads = touches.reads;
-            let writes = touches.writes;
-            let base = first_of(reads);
+        Reading::Illegal => Moved::Stopped(23, word),
+        Reading::Legal(instruction) => {
             if !admits(instruction) {
-                return Moved::Stopped(24, word, base);
+                return Moved::Stopped(24, word);
             }
             let act = machine::meaning(instruction, pc, gpr, spr);
             let effect = act.effect;
             let number = first_broken(effect, accesses);
             if number != 0 {
-                return Moved::Stopped(number, word, base);
+                return Moved::Stopped(number, word);
             }
             let loaded = access(effect, accesses, words);
             let onward = machine::apply(effect, loaded, pc, gpr, spr);
-            Moved::On(onward, act.next, number_of(writes), base)
+            Moved::On(onward, act.next, written(effect))
         }
     }
 }

@@ -1,25 +1,24 @@
 // The steps of a run taken once more, with the last writer of each general register noted.
 ghost use Rattle.std.specs.Prelude.{◌≡◌, ◌-◌, ◌/◌, ◌%◌, slice_set};
 ghost use Rattle.machine.specs.Record.{word_at};
-ghost use Rattle.checker.specs.Inner.{Passed, Fetches, Retraces};
+ghost use Rattle.checker.specs.Inner.{Passed, Retraces};
 
 use crate::running::go;
 use machine::{Machine, Region};
 
-// DPC after the steps, the first register that the word there reads, the general registers, and of each register's last writer
-// one more than its step (0 where there is none) and its DPC.
+// DPC and the general registers after the steps, and of each register's last writer one more than its step (0 where there is
+// none) and its DPC.
 #[derive(Drop)]
 pub(crate) struct Retraced {
     pub dpc: u32,
-    pub base: u8,
     pub gpr: [u32; 32],
     pub steps: [u32; 32],
     pub places: [u32; 32],
 }
 
-// Takes the first `count` steps of a run, which break no test, and then the one whose word is asked for.
+// Takes the first `count` steps of a run, which break no test.
 pub(crate) fn retrace(machine: Machine, count: u32, code: &[u32], words: &mut [u32]) -> Retraced
-    requires { Passed machine code.now words.old count × Fetches machine code.now words.old count }
+    requires { Passed machine code.now words.old count }
     ensures { Retraces machine code.now words.old count result }
 {
     let fetches = machine.code;
@@ -40,14 +39,9 @@ pub(crate) fn retrace(machine: Machine, count: u32, code: &[u32], words: &mut [u
         here = ran.dpc;
         next = ran.pc;
     }
-    let registers = gpr;
-    let last = go(
-        fetches, accesses, 1, here, next, &mut gpr, &mut spr, code, words,
-    );
     Retraced {
         dpc: here,
-        base: last.base,
-        gpr: registers,
+        gpr,
         steps,
         places,
     }

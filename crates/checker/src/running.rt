@@ -7,15 +7,13 @@ use crate::checked::{Moved, step};
 use crate::{Outcome, Verdict};
 use machine::{Machine, Region};
 
-// The verdict and the counters that a run leaves, the general register that its last step wrote, and the first that the last word
-// reads which it looked at (0 for none).
+// The verdict and the counters that a run leaves, and the general register that its last step wrote (0 for none).
 #[derive(Drop)]
 pub(crate) struct Ran {
     pub verdict: Verdict,
     pub dpc: u32,
     pub pc: u32,
     pub wrote: u8,
-    pub base: u8,
 }
 
 pub(crate) fn go(
@@ -36,24 +34,21 @@ pub(crate) fn go(
     let mut here = dpc;
     let mut next = pc;
     let mut wrote: u8 = 0;
-    let mut base: u8 = 0;
     while taken < limit {
         let moved = step(fetches, accesses, here, next, gpr, spr, code, words);
         match moved {
-            Moved::On(d, p, r, b) => {
+            Moved::On(d, p, r) => {
                 here = d;
                 next = p;
                 wrote = r;
-                base = b;
                 taken += 1;
             }
-            Moved::Stopped(number, word, b) => {
+            Moved::Stopped(number, word) => {
                 return Ran {
                     verdict: Verdict::Violation(number, taken, here, word),
                     dpc: here,
                     pc: next,
                     wrote,
-                    base: b,
                 };
             }
         }
@@ -63,7 +58,6 @@ pub(crate) fn go(
         dpc: here,
         pc: next,
         wrote,
-        base,
     }
 }
 

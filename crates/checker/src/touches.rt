@@ -1,12 +1,11 @@
-// What the explanation of a run asks of a word: the register that it writes and the first that it reads, both as the reader
-// names them, and how it leaves PC'.
-ghost use Rattle.std.specs.Prelude.{◌≡◌, ◌==◌, slice_index};
-ghost use Rattle.words.specs.Fields.{pick, opcode as opcode_lem};
-ghost use Rattle.words.specs.Touches.{number_of, reads_of, writes_of};
+// What a step writes, where its address comes from, and how it leaves PC': for the explanation of a run. The words are looked at
+// by their numbers, not read: a second use of the reader would make the checked step dearer.
+ghost use Rattle.std.specs.Prelude.{◌≡◌, ◌==◌};
+ghost use Rattle.words.specs.Fields.{pick, opcode as opcode_lem, rs1 as rs1_lem};
 ghost use Rattle.machine.specs.Effects.{register};
-ghost use Rattle.checker.specs.Seven.{base as base_lem, turn};
+ghost use Rattle.checker.specs.Seven.{target, turn};
 
-use words::{Reads, Writes};
+use machine::Effect;
 
 // The opcodes of the transfers.
 const JAL: u32 = 0x03;
@@ -25,30 +24,24 @@ pub(crate) enum Turn {
     By(u8),
 }
 
-// The register written, 0 for none.
-pub(crate) fn number_of(writes: Writes) -> u8
-    ensures { result ≡ number_of (writes_of writes) }
+// The general register that an effect writes, or 0.
+pub(crate) fn written(effect: Effect) -> u8
+    ensures { result ≡ target effect }
 {
-    match writes {
-        Writes::None => 0,
-        Writes::One(number) => number,
+    match effect {
+        Effect::Put(number, _) => number % 32,
+        Effect::PutSpecial(_, _) => 0,
+        Effect::Sum(number, _, _) => number % 32,
+        Effect::Load(_, number, _) => number % 32,
+        Effect::Store(_, _, _) => 0,
+        Effect::Trap(_) => 0,
+        Effect::Return => 0,
+        Effect::Nothing => 0,
     }
 }
 
-// The first register read, 0 for none.
-pub(crate) fn first_of(reads: Reads) -> u8
-    ensures { result ≡ slice_index (reads_of reads) 0 }
-{
-    match reads {
-        Reads::None => 0,
-        Reads::One(number) => number,
-        Reads::Two(number, _) => number,
-    }
-}
-
-// How a word leaves PC', by the first register that it reads and the general registers.
-pub(crate) fn turned(word: u32, base: u8, gpr: &[u32; 32]) -> Turn
-    requires { base ≡ base_lem word }
+// How a word leaves PC', by the general registers.
+pub(crate) fn turned(word: u32, gpr: &[u32; 32]) -> Turn
     ensures { result ≡ turn word gpr.now }
 {
     let number = opcode(word);
@@ -56,13 +49,13 @@ pub(crate) fn turned(word: u32, base: u8, gpr: &[u32; 32]) -> Turn
         return Turn::Taken;
     }
     if number == JR {
-        return Turn::By(base);
+        return Turn::By(rs1(word));
     }
     if number == BEQZ {
-        return if_taken(is_zero(gpr, base));
+        return if_taken(is_zero(gpr, rs1(word)));
     }
     if number == BNEZ {
-        return if_taken(!is_zero(gpr, base));
+        return if_taken(!is_zero(gpr, rs1(word)));
     }
     Turn::On
 }
@@ -85,4 +78,11 @@ fn opcode(word: u32) -> u32
     ensures { result ≡ opcode_lem word }
 {
     word >> 26
+}
+
+// Bits 25..21.
+pub(crate) fn rs1(word: u32) -> u8
+    ensures { result ≡ rs1_lem word }
+{
+    ((word >> 21) % 32) as u8
 }

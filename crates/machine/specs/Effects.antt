@@ -3,7 +3,6 @@ use Rattle.std.specs.Prelude.{ℕ, ◌*◌, ◌%◌, ◌^◌, Bool, false, not, 
 use Rattle.std.proofs.Math.Option.{Option, none, some}
 use Rattle.words.specs.Fields.{pick}
 use Rattle.words.specs.Words.{reading}
-use Rattle.words.specs.Touches.{LINK}
 use Rattle.words.specs.declared.Instruction.{Instruction}
 use Rattle.words.specs.declared.Instruction.TheVariants.{ShiftImmediate, ShiftRegister, Movs2i, Movi2s, ArithmeticRegister, Lhg, Clr, CompareRegister, Set, J, Jal, Trap, Rfe, Beqz, Bnez, ArithmeticImmediate, Lhgi, Jr, Jalr, Clri, CompareImmediate, Seti, Load, Store}
 use Rattle.words.specs.declared.Arithmetic.{Arithmetic}
@@ -89,6 +88,10 @@ computed Sub d a b = does.Put d (minus a b)
 computed And d a b = does.Put d (bit_and a b)
 computed Or d a b = does.Put d (bit_or a b)
 computed Xor d a b = does.Put d (bit_xor a b)
+
+-- The link register of jal and jalr
+abbrev pub LINK : ℕ
+LINK = 31
 
 -- The effect of each instruction and the next PC', by the old PC' pc, the general registers g and the special registers p
 unfoldable pub meaning : Instruction → ℕ → List ℕ → List ℕ → Effect × ℕ

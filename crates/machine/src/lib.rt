@@ -63,7 +63,7 @@ impl Machine {
     pub const MODE: usize = 16;
 
     // The register that jal and jalr link in.
-    pub const LINK: u8 = words::LINK;
+    pub const LINK: u8 = 31;
 
     // The longest code and the longest data, in words.
     pub const LONGEST: u32 = 1024;

@@ -8,7 +8,7 @@ use crate::Answer;
 use crate::effects::touch;
 use crate::lanes::read;
 use machine::Machine;
-use words::Decoded;
+use words::Reading;
 
 // The steps taken, the answer of the last step, how many of the steps taken reported a cause, and the counters.
 #[derive(Drop)]
@@ -125,9 +125,9 @@ fn perform(
     requires { length memory.old ≡ DOUBLE_WORDS }
     ensures { (answered result.answer, parts result.dpc result.pc gpr.new spr.new memory.new) ≡ taken (word_event word (parts dpc pc gpr.old spr.old memory.old).0) word (parts dpc pc gpr.old spr.old memory.old) }
 {
-    let decoded = words::decode(word);
-    match decoded {
-        Decoded::Legal(instruction) => {
+    let reading = words::read(word);
+    match reading {
+        Reading::Legal(instruction) => {
             let act = machine::meaning(instruction, pc, gpr, spr);
             let effect = act.effect;
             let touched = touch(effect, spr, memory);
@@ -142,7 +142,7 @@ fn perform(
                 pc: act.next,
             }
         }
-        Decoded::Illegal => Moved {
+        Reading::Illegal => Moved {
             answer: Answer::Illegal,
             dpc,
             pc,

@@ -4,5 +4,4 @@ pub mod Numbering
 pub mod Again
 pub mod Back
 pub mod Legal
-pub mod Touched
 pub mod Unique

@@ -16,8 +16,8 @@ use Rattle.words.specs.declared.LoadKind.{LoadKind}
 use Rattle.words.specs.declared.LoadKind.TheVariants.{Lb, Lh, Lw, Lbu, Lhu}
 use Rattle.words.specs.declared.StoreKind.{StoreKind}
 use Rattle.words.specs.declared.StoreKind.TheVariants.{Sb, Sh, Sw}
-use Rattle.words.specs.declared.Decoded.{Decoded}
-use Rattle.words.specs.declared.Decoded.TheVariants.{Legal, Illegal}
+use Rattle.words.specs.declared.Reading.{Reading}
+use Rattle.words.specs.declared.Reading.TheVariants.{Legal, Illegal}
 use Rattle.words.specs.declared.Made.{Made}
 use Rattle.words.specs.declared.Made.TheVariants.{Word, Refused}
 
@@ -184,9 +184,9 @@ numbered o f (form_i n a d m) = eqb o n
 numbered o f (form_j n m) = eqb o n
 
 -- The paper's number and values of each answer of the reader
-abbrev pub decoded_answer : Decoded → ℕ × Option Instruction
-decoded_answer (Legal i) = (0, some i)
-decoded_answer Illegal = (23, none)
+abbrev pub reading_answer : Reading → ℕ × Option Instruction
+reading_answer (Legal i) = (0, some i)
+reading_answer Illegal = (23, none)
 
 -- The one of some instructions that has the number o, f; 23 and none where no one has it
 abbrev pub among : ℕ → ℕ → List Instruction → ℕ × Option Instruction

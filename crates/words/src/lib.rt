@@ -1,9 +1,7 @@
 // The instruction words of document 01, "Words": the 58 legal instructions, the reader of a word and the maker of one.
-// Every number stands once more in specs/Words.antt, in the document's order, and what each instruction touches in
-// specs/Touches.antt; the promises below hold them together.
+// Every number stands once more in specs/Words.antt, in the document's order; the promises below hold the two together.
 ghost use Rattle.std.specs.Prelude.{◌≡◌};
-ghost use Rattle.words.specs.Words.{reading, decoded_answer, making, made_answer};
-ghost use Rattle.words.specs.Touches.{touched, reading_answer, reading_touches};
+ghost use Rattle.words.specs.Words.{reading, reading_answer, making, made_answer};
 
 mod fields;
 mod layout;
@@ -11,17 +9,12 @@ mod maker;
 mod members;
 mod numbers;
 mod reader;
-mod touching;
 
 use maker::{immediate, jump, register};
 use numbers::{
     ARITHMETIC_REGISTER, COMPARE_REGISTER, SHIFT_REGISTER, arithmetic_immediate, compare_immediate,
     load, shift_immediate, store,
 };
-use touching::touches_of;
-
-// The register that jal and jalr write.
-pub const LINK: u8 = 31;
 
 // The instructions, grouped as tables 1.2 to 1.4 group them. A variant carries only the fields that its syntax uses, in
 // the syntax's order. Registers and SA are numbers that a made-up value may have out of range; `make` refuses those.
@@ -127,52 +120,9 @@ pub enum StoreKind {
     Sw,
 }
 
-// The general registers that a word reads, in order: RS1, then RS2 or a store's RD.
-#[derive(Drop)]
-pub enum Reads {
-    None,
-    One(u8),
-    Two(u8, u8),
-}
-
-// The general register that a word writes: none for R0.
-#[derive(Drop)]
-pub enum Writes {
-    None,
-    One(u8),
-}
-
-// What a word does with the special registers.
-#[derive(Drop)]
-pub enum Special {
-    None,
-    // movs2i: the one that it reads.
-    Read(u8),
-    // movi2s: the one that it writes.
-    Written(u8),
-    // rfe, a kind of its own.
-    Return,
-}
-
-// What a word touches.
-#[derive(Drop)]
-pub struct Touches {
-    pub reads: Reads,
-    pub writes: Writes,
-    pub special: Special,
-}
-
-// What reading a word answers: the instruction and what it touches.
+// What reading a word answers.
 #[derive(Drop)]
 pub enum Reading {
-    Legal(Instruction, Touches),
-    // 23
-    Illegal,
-}
-
-// The same without what is touched.
-#[derive(Drop)]
-pub enum Decoded {
     Legal(Instruction),
     // 23
     Illegal,
@@ -186,32 +136,20 @@ pub enum Made {
     Refused,
 }
 
-// The instruction that a word means and what it touches, or 23. Unused fields of the word may hold anything.
+// The instruction that a word means, or 23. Unused fields of the word may hold anything.
 pub fn read(word: u32) -> Reading
-    ensures result_value { reading_answer result ≡ reading word }
-    ensures result_value_2 { reading_touches result ≡ touched word }
-{
-    let decoded = decode(word);
-    match decoded {
-        Decoded::Legal(instruction) => Reading::Legal(instruction, touches_of(instruction)),
-        Decoded::Illegal => Reading::Illegal,
-    }
-}
-
-// The instruction alone, for who asks for no more.
-pub fn decode(word: u32) -> Decoded
-    ensures { decoded_answer result ≡ reading word }
+    ensures { reading_answer result ≡ reading word }
 {
     let opcode = fields::opcode_of(word);
     match opcode {
         0x00 => reader::register(word),
-        0x02..=0x03 => Decoded::Legal(reader::jump(word, opcode)),
-        0x04..=0x05 => Decoded::Legal(reader::branch(word, opcode)),
-        0x08..=0x0F => Decoded::Legal(reader::arithmetic(word, opcode)),
-        0x16..=0x1F => Decoded::Legal(reader::test(word, opcode)),
+        0x02..=0x03 => Reading::Legal(reader::jump(word, opcode)),
+        0x04..=0x05 => Reading::Legal(reader::branch(word, opcode)),
+        0x08..=0x0F => Reading::Legal(reader::arithmetic(word, opcode)),
+        0x16..=0x1F => Reading::Legal(reader::test(word, opcode)),
         0x20..=0x2B => reader::memory(word, opcode),
-        0x3E..=0x3F => Decoded::Legal(reader::system(word, opcode)),
-        _ => Decoded::Illegal,
+        0x3E..=0x3F => Reading::Legal(reader::system(word, opcode)),
+        _ => Reading::Illegal,
     }
 }
 

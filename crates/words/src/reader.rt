@@ -2,16 +2,16 @@
 ghost use Rattle.std.specs.Prelude.{◌≡◌, ◌≤◌};
 ghost use Rattle.std.proofs.Math.Option.{some};
 ghost use Rattle.words.specs.Fields.{opcode};
-ghost use Rattle.words.specs.Words.{reading, decoded_answer, load_no, store_no};
+ghost use Rattle.words.specs.Words.{reading, reading_answer, load_no, store_no};
 
 use crate::fields::{fields_of, function_of, immediate16_of, immediate26_of};
 use crate::members::{arithmetic_of, comparison_of, shift_of};
-use crate::{Decoded, Instruction, LoadKind, StoreKind};
+use crate::{Instruction, LoadKind, Reading, StoreKind};
 
 // Opcode 00: the R words, by their function.
-pub(crate) fn register(word: u32) -> Decoded
+pub(crate) fn register(word: u32) -> Reading
     requires { opcode word ≡ 0x00 }
-    ensures { decoded_answer result ≡ reading word }
+    ensures { reading_answer result ≡ reading word }
 {
     let number = function_of(word);
     let f = fields_of(word);
@@ -40,9 +40,9 @@ pub(crate) fn register(word: u32) -> Decoded
             f.second,
         ),
         0x2F => Instruction::Set(f.third),
-        _ => return Decoded::Illegal,
+        _ => return Reading::Illegal,
     };
-    Decoded::Legal(instruction)
+    Reading::Legal(instruction)
 }
 
 // j, jal.
@@ -107,9 +107,9 @@ pub(crate) fn test(word: u32, number: u32) -> Instruction
 }
 
 // lb, lh, lw, lbu, lhu, sb, sh, sw; 22, 26, 27 and 2A are no words.
-pub(crate) fn memory(word: u32, number: u32) -> Decoded
+pub(crate) fn memory(word: u32, number: u32) -> Reading
     requires { (opcode word ≡ number) × (0x20 ≤ number) × (number ≤ 0x2B) }
-    ensures { decoded_answer result ≡ reading word }
+    ensures { reading_answer result ≡ reading word }
 {
     if number < 0x26 {
         match number {
@@ -118,34 +118,34 @@ pub(crate) fn memory(word: u32, number: u32) -> Decoded
             0x23 => load(LoadKind::Lw, word),
             0x24 => load(LoadKind::Lbu, word),
             0x25 => load(LoadKind::Lhu, word),
-            _ => Decoded::Illegal,
+            _ => Reading::Illegal,
         }
     } else {
         match number {
             0x28 => store(StoreKind::Sb, word),
             0x29 => store(StoreKind::Sh, word),
             0x2B => store(StoreKind::Sw, word),
-            _ => Decoded::Illegal,
+            _ => Reading::Illegal,
         }
     }
 }
 
 // A load, with the word's fields.
-fn load(kind: LoadKind, word: u32) -> Decoded
+fn load(kind: LoadKind, word: u32) -> Reading
     requires { opcode word ≡ load_no kind }
-    ensures { decoded_answer result ≡ reading word }
+    ensures { reading_answer result ≡ reading word }
 {
     let f = fields_of(word);
-    Decoded::Legal(Instruction::Load(kind, f.second, f.rs1, immediate16_of(word)))
+    Reading::Legal(Instruction::Load(kind, f.second, f.rs1, immediate16_of(word)))
 }
 
 // A store, with the word's fields.
-fn store(kind: StoreKind, word: u32) -> Decoded
+fn store(kind: StoreKind, word: u32) -> Reading
     requires { opcode word ≡ store_no kind }
-    ensures { decoded_answer result ≡ reading word }
+    ensures { reading_answer result ≡ reading word }
 {
     let f = fields_of(word);
-    Decoded::Legal(Instruction::Store(kind, f.rs1, immediate16_of(word), f.second))
+    Reading::Legal(Instruction::Store(kind, f.rs1, immediate16_of(word), f.second))
 }
 
 // trap, rfe.

@@ -1,5 +1,5 @@
 use Rattle.std.proofs.Common.{◌≡◌, ℕ, ◌-◌, ◌%◌, ◌≤◌, List, length, refl, ap, ◌∙◌, arith, length-set, rules}
-use Rattle.checker.proofs.Retrace.{Notes, after_none, notes_none, one_more, one_taken, notes_on, target_small, wrote_first, one_looked}
+use Rattle.checker.proofs.Retrace.{Notes, after_none, notes_none, one_more, one_taken, notes_on, target_small, wrote_first}
 use Rattle.checker.proofs.retracing.retrace.Statement.{statement}
 use Rattle.checker.proofs.retracing.retrace.Tie as tie
 use Rattle.checker.specs.Runs.{after}
@@ -24,7 +24,7 @@ loop-holds : tie.Need-loop-init invariant-loop decreases-loop
 loop-holds c = (omega arith, refl, after_none _ _ _ _, notes_none _ _ _ _, refl, refl)
 
 go-requires : tie.Need-go-requires invariant-loop decreases-loop
-go-requires c κs = (c.before.before.before.before.before.before.before.before.before.before.before.requires.0.0, let q = c.before.before.before.before.loop.invariant.1 in let r = c.before.before.before.before.before.before.before.before.before.before.before.requires.0.1 in omega arith)
+go-requires c κs = (c.before.before.before.before.before.before.before.before.before.before.before.requires.0, let q = c.before.before.before.before.loop.invariant.1 in omega arith)
 
 add-taken : tie.Need-overflow-add-taken invariant-loop decreases-loop
 add-taken c = omega arith
@@ -39,27 +39,20 @@ loop-again : tie.Need-loop-preserved invariant-loop decreases-loop
 loop-again c = (
   omega arith,
   c.before.before.before.before.before.go.auto.1.1.1.1.1.1.1.1.0 ∙ c.before.before.before.before.before.before.before.before.before.before.loop.invariant.1,
-  one_more c.before.before.before.before.before.before.before.before.before.before.before.before.before.before.before.before.before.args.machine.code c.before.before.before.before.before.before.before.before.before.before.before.before.before.before.before.before.before.args.machine.«data» c.before.before.before.before.before.before.before.before.before.before.before.before.before.before.before.before.before.args.code.now (state_of c.before.before.before.before.before.before.before.before.before.before.before.before.before.before.before.before.before.args.machine, c.before.before.before.before.before.before.before.before.before.before.before.before.before.before.before.before.before.args.words.now) c.before.before.before.before.before.before.before.before.before.before.loop.taken (record { dpc = c.before.before.before.before.before.before.before.before.before.before.loop.here; pc = c.before.before.before.before.before.before.before.before.before.before.loop.next; gpr = c.before.before.before.before.before.before.before.before.before.before.loop.gpr; spr = c.before.before.before.before.before.before.before.before.before.before.loop.spr }, c.before.before.before.before.before.before.before.before.before.before.loop.words) _ _ c.before.before.before.before.before.before.before.before.before.before.loop.invariant.2 (c.before.before.before.before.before.before.before.before.before.before.before.before.before.before.before.before.before.requires.0.2 c.before.before.before.before.before.before.before.before.before.before.loop.taken c.before.before.before.before.before.before.before.before.before.loop-test.true) c.before.before.before.before.before.go.ensures.0,
-  rw (c.note.ensures.0, c.note.ensures.1) (notes_on c.before.before.before.before.before.before.before.before.before.before.before.before.before.before.before.before.before.args.machine.code c.before.before.before.before.before.before.before.before.before.before.before.before.before.before.before.before.before.args.machine.«data» c.before.before.before.before.before.before.before.before.before.before.before.before.before.before.before.before.before.args.code.now (state_of c.before.before.before.before.before.before.before.before.before.before.before.before.before.before.before.before.before.args.machine, c.before.before.before.before.before.before.before.before.before.before.before.before.before.before.before.before.before.args.words.now) c.before.before.before.before.before.before.before.before.before.before.loop.taken (c.before.before.before.before.before.go.result.wrote % 32) c.before.before.before.before.before.before.before.before.before.before.loop.steps c.before.before.before.before.before.before.before.before.before.before.loop.places (record { dpc = c.before.before.before.before.before.before.before.before.before.before.loop.here; pc = c.before.before.before.before.before.before.before.before.before.before.loop.next; gpr = c.before.before.before.before.before.before.before.before.before.before.loop.gpr; spr = c.before.before.before.before.before.before.before.before.before.before.loop.spr }, c.before.before.before.before.before.before.before.before.before.before.loop.words) c.before.before.before.before.before.before.before.before.before.before.loop.invariant.2 c.before.before.before.before.before.before.before.before.before.before.loop.invariant.4 c.before.before.before.before.before.before.before.before.before.before.loop.invariant.5 (omega arith) (target_small _ _ (c.before.before.before.before.before.go.ensures.1 0 (one_taken c.before.before.before.before.before.before.before.before.before.before.before.before.before.before.before.before.before.args.machine.code c.before.before.before.before.before.before.before.before.before.before.before.before.before.before.before.before.before.args.machine.«data» c.before.before.before.before.before.before.before.before.before.before.before.before.before.before.before.before.before.args.code.now (state_of c.before.before.before.before.before.before.before.before.before.before.before.before.before.before.before.before.before.args.machine, c.before.before.before.before.before.before.before.before.before.before.before.before.before.before.before.before.before.args.words.now) c.before.before.before.before.before.before.before.before.before.before.loop.taken (record { dpc = c.before.before.before.before.before.before.before.before.before.before.loop.here; pc = c.before.before.before.before.before.before.before.before.before.before.loop.next; gpr = c.before.before.before.before.before.before.before.before.before.before.loop.gpr; spr = c.before.before.before.before.before.before.before.before.before.before.loop.spr }, c.before.before.before.before.before.before.before.before.before.before.loop.words) _ _ c.before.before.before.before.before.before.before.before.before.before.loop.invariant.2 (c.before.before.before.before.before.before.before.before.before.before.before.before.before.before.before.before.before.requires.0.2 c.before.before.before.before.before.before.before.before.before.before.loop.taken c.before.before.before.before.before.before.before.before.before.loop-test.true) c.before.before.before.before.before.go.ensures.0) ∙ wrote_first _ _ _ _)) c.before.before.before.before.before.before.before.before.before.before.loop.invariant.3),
+  one_more c.before.before.before.before.before.before.before.before.before.before.before.before.before.before.before.before.before.args.machine.code c.before.before.before.before.before.before.before.before.before.before.before.before.before.before.before.before.before.args.machine.«data» c.before.before.before.before.before.before.before.before.before.before.before.before.before.before.before.before.before.args.code.now (state_of c.before.before.before.before.before.before.before.before.before.before.before.before.before.before.before.before.before.args.machine, c.before.before.before.before.before.before.before.before.before.before.before.before.before.before.before.before.before.args.words.now) c.before.before.before.before.before.before.before.before.before.before.loop.taken (record { dpc = c.before.before.before.before.before.before.before.before.before.before.loop.here; pc = c.before.before.before.before.before.before.before.before.before.before.loop.next; gpr = c.before.before.before.before.before.before.before.before.before.before.loop.gpr; spr = c.before.before.before.before.before.before.before.before.before.before.loop.spr }, c.before.before.before.before.before.before.before.before.before.before.loop.words) _ _ c.before.before.before.before.before.before.before.before.before.before.loop.invariant.2 (c.before.before.before.before.before.before.before.before.before.before.before.before.before.before.before.before.before.requires.2 c.before.before.before.before.before.before.before.before.before.before.loop.taken c.before.before.before.before.before.before.before.before.before.loop-test.true) c.before.before.before.before.before.go.ensures.0,
+  rw (c.note.ensures.0, c.note.ensures.1) (notes_on c.before.before.before.before.before.before.before.before.before.before.before.before.before.before.before.before.before.args.machine.code c.before.before.before.before.before.before.before.before.before.before.before.before.before.before.before.before.before.args.machine.«data» c.before.before.before.before.before.before.before.before.before.before.before.before.before.before.before.before.before.args.code.now (state_of c.before.before.before.before.before.before.before.before.before.before.before.before.before.before.before.before.before.args.machine, c.before.before.before.before.before.before.before.before.before.before.before.before.before.before.before.before.before.args.words.now) c.before.before.before.before.before.before.before.before.before.before.loop.taken (c.before.before.before.before.before.go.result.wrote % 32) c.before.before.before.before.before.before.before.before.before.before.loop.steps c.before.before.before.before.before.before.before.before.before.before.loop.places (record { dpc = c.before.before.before.before.before.before.before.before.before.before.loop.here; pc = c.before.before.before.before.before.before.before.before.before.before.loop.next; gpr = c.before.before.before.before.before.before.before.before.before.before.loop.gpr; spr = c.before.before.before.before.before.before.before.before.before.before.loop.spr }, c.before.before.before.before.before.before.before.before.before.before.loop.words) c.before.before.before.before.before.before.before.before.before.before.loop.invariant.2 c.before.before.before.before.before.before.before.before.before.before.loop.invariant.4 c.before.before.before.before.before.before.before.before.before.before.loop.invariant.5 (omega arith) (target_small _ _ (c.before.before.before.before.before.go.ensures.1 0 (one_taken c.before.before.before.before.before.before.before.before.before.before.before.before.before.before.before.before.before.args.machine.code c.before.before.before.before.before.before.before.before.before.before.before.before.before.before.before.before.before.args.machine.«data» c.before.before.before.before.before.before.before.before.before.before.before.before.before.before.before.before.before.args.code.now (state_of c.before.before.before.before.before.before.before.before.before.before.before.before.before.before.before.before.before.args.machine, c.before.before.before.before.before.before.before.before.before.before.before.before.before.before.before.before.before.args.words.now) c.before.before.before.before.before.before.before.before.before.before.loop.taken (record { dpc = c.before.before.before.before.before.before.before.before.before.before.loop.here; pc = c.before.before.before.before.before.before.before.before.before.before.loop.next; gpr = c.before.before.before.before.before.before.before.before.before.before.loop.gpr; spr = c.before.before.before.before.before.before.before.before.before.before.loop.spr }, c.before.before.before.before.before.before.before.before.before.before.loop.words) _ _ c.before.before.before.before.before.before.before.before.before.before.loop.invariant.2 (c.before.before.before.before.before.before.before.before.before.before.before.before.before.before.before.before.before.requires.2 c.before.before.before.before.before.before.before.before.before.before.loop.taken c.before.before.before.before.before.before.before.before.before.loop-test.true) c.before.before.before.before.before.go.ensures.0) ∙ wrote_first _ _ _ _)) c.before.before.before.before.before.before.before.before.before.before.loop.invariant.3),
   ap length c.note.ensures.0 ∙ length-set c.before.before.before.before.before.before.before.before.before.before.loop.steps _ _ ∙ c.before.before.before.before.before.before.before.before.before.before.loop.invariant.4,
   ap length c.note.ensures.1 ∙ length-set c.before.before.before.before.before.before.before.before.before.before.loop.places _ _ ∙ c.before.before.before.before.before.before.before.before.before.before.loop.invariant.5,
 )
 
-go-requires-2 : tie.Need-go-requires-2 invariant-loop decreases-loop
-go-requires-2 c κs = (c.before.before.before.before.before.before.before.before.before.before.before.requires.0.0, let q = c.before.before.before.before.loop.invariant.1 in let r = c.before.before.before.before.before.before.before.before.before.before.before.requires.0.1 in omega arith)
-
 same_length : tie.Need-same-length invariant-loop decreases-loop
-same_length c = c.before.before.go2.auto.1.1.1.1.1.1.1.1.0 ∙ c.before.before.before.before.before.before.before.loop.invariant.1
+same_length c = search rules
 
 returns : tie.Need-returns invariant-loop decreases-loop
 returns c =
-    let t : c.before.before.before.before.before.before.before.loop.taken ≡ c.before.before.before.before.before.before.before.before.before.before.before.before.before.before.args.count = (let q = c.before.before.before.before.before.before.before.loop.invariant.0 in omega arith) in
-    let e = (rw t at c.before.before.before.before.before.before.before.loop.invariant.2) in (
-      ap (λ (y : State × List ℕ). y.0.dpc) e,
-      one_looked c.before.before.before.before.before.before.before.before.before.before.before.before.before.before.args.machine.code c.before.before.before.before.before.before.before.before.before.before.before.before.before.before.args.machine.«data» c.before.before.before.before.before.before.before.before.before.before.before.before.before.before.args.code.now (state_of c.before.before.before.before.before.before.before.before.before.before.before.before.before.before.args.machine, c.before.before.before.before.before.before.before.before.before.before.before.before.before.before.args.words.now) c.before.before.before.before.before.before.before.before.before.before.before.before.before.before.args.count _ (record { dpc = c.before.before.before.before.before.before.before.loop.here; pc = c.before.before.before.before.before.before.before.loop.next; gpr = c.before.before.before.before.before.before.before.loop.gpr; spr = c.before.before.before.before.before.before.before.loop.spr }, c.before.before.before.before.before.before.before.loop.words) _ c.before.before.go2.result.verdict e c.before.before.go2.ensures.0 c.before.before.go2.ensures.2 c.before.before.before.before.before.before.before.before.before.before.before.before.before.before.requires.1,
-      ap (λ (y : State × List ℕ). y.0.gpr) e,
-      (rw t at c.before.before.before.before.before.before.before.loop.invariant.3),
-    )
+    let t : c.before.loop.taken ≡ c.before.before.before.before.before.before.before.before.args.count = (let q = c.before.loop.invariant.0 in omega arith) in
+    let e = (rw t at c.before.loop.invariant.2) in
+    (ap (λ (y : State × List ℕ). y.0.dpc) e, ap (λ (y : State × List ℕ). y.0.gpr) e, (rw t at c.before.loop.invariant.3))
 
 pub retrace_spec : {M : Type 1} → statement M
 retrace_spec =
@@ -73,6 +66,5 @@ retrace_spec =
     note-requires
     loop-less
     loop-again
-    go-requires-2
     same_length
     returns)
