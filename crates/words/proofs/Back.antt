@@ -152,10 +152,10 @@ holds_function (form_j n m) w p = refl
 -- A function number has six bits
 six_bits : (i : Instruction) → fn (form i) 0 < 64
 six_bits = elim [
-  | ShiftImmediate s rd r1 sa ↦ elim s [ Sll ↦ lit< tt | Sla ↦ lit< tt | Srl ↦ lit< tt | Sra ↦ lit< tt ]
-  | ShiftRegister s rd r1 r2 ↦ elim s [ Sll ↦ lit< tt | Sla ↦ lit< tt | Srl ↦ lit< tt | Sra ↦ lit< tt ]
-  | ArithmeticRegister a rd r1 r2 ↦ elim a [ Addo ↦ lit< tt | Add ↦ lit< tt | Subo ↦ lit< tt | Sub ↦ lit< tt | And ↦ lit< tt | Or ↦ lit< tt | Xor ↦ lit< tt ]
-  | CompareRegister k rd r1 r2 ↦ elim k [ Sgr ↦ lit< tt | Seq ↦ lit< tt | Sge ↦ lit< tt | Sls ↦ lit< tt | Sne ↦ lit< tt | Sle ↦ lit< tt ]
+  | ShiftImmediate s rd r1 sa ↦ elim s as (λ s. fn (form (ShiftImmediate s rd r1 sa)) 0 < 64) [ Sll ↦ lit< tt | Sla ↦ lit< tt | Srl ↦ lit< tt | Sra ↦ lit< tt ]
+  | ShiftRegister s rd r1 r2 ↦ elim s as (λ s. fn (form (ShiftRegister s rd r1 r2)) 0 < 64) [ Sll ↦ lit< tt | Sla ↦ lit< tt | Srl ↦ lit< tt | Sra ↦ lit< tt ]
+  | ArithmeticRegister a rd r1 r2 ↦ elim a as (λ a. fn (form (ArithmeticRegister a rd r1 r2)) 0 < 64) [ Addo ↦ lit< tt | Add ↦ lit< tt | Subo ↦ lit< tt | Sub ↦ lit< tt | And ↦ lit< tt | Or ↦ lit< tt | Xor ↦ lit< tt ]
+  | CompareRegister k rd r1 r2 ↦ elim k as (λ k. fn (form (CompareRegister k rd r1 r2)) 0 < 64) [ Sgr ↦ lit< tt | Seq ↦ lit< tt | Sge ↦ lit< tt | Sls ↦ lit< tt | Sne ↦ lit< tt | Sle ↦ lit< tt ]
   | Movs2i rd sa ↦ lit< tt
   | Movi2s sa r1 ↦ lit< tt
   | Lhg rd r1 ↦ lit< tt

@@ -4,4 +4,5 @@ pub mod Numbering
 pub mod Again
 pub mod Back
 pub mod Legal
+pub mod Touched
 pub mod Unique

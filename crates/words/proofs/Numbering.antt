@@ -2,7 +2,7 @@
 -- that no instruction has leads to 23.
 use Prim.Native.Nat.{ℕ, ◌+◌, ◌-◌, ◌^◌, ◌≤◌, ◌<◌}
 use native.Mathlib.Omega.{arith}
-use mathlib.Core.Path.{◌≡◌, refl, ap, ap₂, subst, ◌∙◌}
+use mathlib.Core.Path.{◌≡◌, refl, ap₂, subst, ◌∙◌}
 use mathlib.Core.Bool.{Bool, true, false, not, ◌&&◌}
 use mathlib.Core.List.{List, [], ◌∷◌}
 use mathlib.Core.Option.{Option, none, some}
@@ -62,15 +62,18 @@ fn (form_i n a d m) f = f
 fn (form_j n m) f = f
 
 -- At its number the choice comes to the instruction, whatever the fields
-chosen : (i : Instruction) (w f : ℕ) → among (op (form i)) (fn (form i) f) (instructions w) ≡ (0, some (filled i w))
-chosen (ShiftImmediate s rd r1 sa) w f = elim s [ Sll ↦ refl | Sla ↦ refl | Srl ↦ refl | Sra ↦ refl ]
-chosen (ShiftRegister s rd r1 r2) w f = elim s [ Sll ↦ refl | Sla ↦ refl | Srl ↦ refl | Sra ↦ refl ]
+abbrev Chosen : Instruction → ℕ → ℕ → Type 0
+Chosen i w f = among (op (form i)) (fn (form i) f) (instructions w) ≡ (0, some (filled i w))
+
+chosen : (i : Instruction) (w f : ℕ) → Chosen i w f
+chosen (ShiftImmediate s rd r1 sa) w f = elim s as (λ s. Chosen (ShiftImmediate s rd r1 sa) w f) [ Sll ↦ refl | Sla ↦ refl | Srl ↦ refl | Sra ↦ refl ]
+chosen (ShiftRegister s rd r1 r2) w f = elim s as (λ s. Chosen (ShiftRegister s rd r1 r2) w f) [ Sll ↦ refl | Sla ↦ refl | Srl ↦ refl | Sra ↦ refl ]
 chosen (Movs2i rd sa) w f = refl
 chosen (Movi2s sa r1) w f = refl
-chosen (ArithmeticRegister a rd r1 r2) w f = elim a [ Addo ↦ refl | Add ↦ refl | Subo ↦ refl | Sub ↦ refl | And ↦ refl | Or ↦ refl | Xor ↦ refl ]
+chosen (ArithmeticRegister a rd r1 r2) w f = elim a as (λ a. Chosen (ArithmeticRegister a rd r1 r2) w f) [ Addo ↦ refl | Add ↦ refl | Subo ↦ refl | Sub ↦ refl | And ↦ refl | Or ↦ refl | Xor ↦ refl ]
 chosen (Lhg rd r1) w f = refl
 chosen (Clr rd) w f = refl
-chosen (CompareRegister k rd r1 r2) w f = elim k [ Sgr ↦ refl | Seq ↦ refl | Sge ↦ refl | Sls ↦ refl | Sne ↦ refl | Sle ↦ refl ]
+chosen (CompareRegister k rd r1 r2) w f = elim k as (λ k. Chosen (CompareRegister k rd r1 r2) w f) [ Sgr ↦ refl | Seq ↦ refl | Sge ↦ refl | Sls ↦ refl | Sne ↦ refl | Sle ↦ refl ]
 chosen (Set rd) w f = refl
 chosen (J imm) w f = refl
 chosen (Jal imm) w f = refl
@@ -78,15 +81,15 @@ chosen (Trap imm) w f = refl
 chosen Rfe w f = refl
 chosen (Beqz r1 imm) w f = refl
 chosen (Bnez r1 imm) w f = refl
-chosen (ArithmeticImmediate a rd r1 imm) w f = elim a [ Addo ↦ refl | Add ↦ refl | Subo ↦ refl | Sub ↦ refl | And ↦ refl | Or ↦ refl | Xor ↦ refl ]
+chosen (ArithmeticImmediate a rd r1 imm) w f = elim a as (λ a. Chosen (ArithmeticImmediate a rd r1 imm) w f) [ Addo ↦ refl | Add ↦ refl | Subo ↦ refl | Sub ↦ refl | And ↦ refl | Or ↦ refl | Xor ↦ refl ]
 chosen (Lhgi rd imm) w f = refl
 chosen (Jr r1) w f = refl
 chosen (Jalr r1) w f = refl
 chosen (Clri rd) w f = refl
-chosen (CompareImmediate k rd r1 imm) w f = elim k [ Sgr ↦ refl | Seq ↦ refl | Sge ↦ refl | Sls ↦ refl | Sne ↦ refl | Sle ↦ refl ]
+chosen (CompareImmediate k rd r1 imm) w f = elim k as (λ k. Chosen (CompareImmediate k rd r1 imm) w f) [ Sgr ↦ refl | Seq ↦ refl | Sge ↦ refl | Sls ↦ refl | Sne ↦ refl | Sle ↦ refl ]
 chosen (Seti rd) w f = refl
-chosen (Load k rd r1 imm) w f = elim k [ Lb ↦ refl | Lh ↦ refl | Lw ↦ refl | Lbu ↦ refl | Lhu ↦ refl ]
-chosen (Store k r1 imm rd) w f = elim k [ Sb ↦ refl | Sh ↦ refl | Sw ↦ refl ]
+chosen (Load k rd r1 imm) w f = elim k as (λ k. Chosen (Load k rd r1 imm) w f) [ Lb ↦ refl | Lh ↦ refl | Lw ↦ refl | Lbu ↦ refl | Lhu ↦ refl ]
+chosen (Store k r1 imm rd) w f = elim k as (λ k. Chosen (Store k r1 imm rd) w f) [ Sb ↦ refl | Sh ↦ refl | Sw ↦ refl ]
 
 -- A word with the number of an instruction reads as that instruction with the word's fields
 pub leads : (i : Instruction) (w : ℕ) → opcode w ≡ op (form i) → function w ≡ fn (form i) (function w) → reading w ≡ (0, some (filled i w))
@@ -113,13 +116,13 @@ no_opcode lo n w t l h = bare (opcode w) (function w) (instructions w) (eqb-true
 
 -- The register and the immediate forms of a group have the same order
 pub shift_offset : (s : Shift) → shift_register_no s ≡ shift_immediate_no s + 4
-shift_offset s = elim s [ Sll ↦ refl | Sla ↦ refl | Srl ↦ refl | Sra ↦ refl ]
+shift_offset s = elim s as (λ s. shift_register_no s ≡ shift_immediate_no s + 4) [ Sll ↦ refl | Sla ↦ refl | Srl ↦ refl | Sra ↦ refl ]
 
 pub arithmetic_offset : (a : Arithmetic) → arithmetic_register_no a ≡ arithmetic_immediate_no a + 0x18
-arithmetic_offset a = elim a [ Addo ↦ refl | Add ↦ refl | Subo ↦ refl | Sub ↦ refl | And ↦ refl | Or ↦ refl | Xor ↦ refl ]
+arithmetic_offset a = elim a as (λ a. arithmetic_register_no a ≡ arithmetic_immediate_no a + 0x18) [ Addo ↦ refl | Add ↦ refl | Subo ↦ refl | Sub ↦ refl | And ↦ refl | Or ↦ refl | Xor ↦ refl ]
 
 pub compare_offset : (k : Comparison) → compare_register_no k ≡ compare_immediate_no k + 0x10
-compare_offset k = elim k [ Sgr ↦ refl | Seq ↦ refl | Sge ↦ refl | Sls ↦ refl | Sne ↦ refl | Sle ↦ refl ]
+compare_offset k = elim k as (λ k. compare_register_no k ≡ compare_immediate_no k + 0x10) [ Sgr ↦ refl | Seq ↦ refl | Sge ↦ refl | Sls ↦ refl | Sne ↦ refl | Sle ↦ refl ]
 
 -- The number f of a register form, b, from that of the immediate form, a, which was read k below it
 pub moved : (k d : ℕ) {n a b f : ℕ} → k + d ≤ n → n ≡ f → a ≡ n - k → b ≡ a + k → f ≡ b

@@ -1,6 +1,6 @@
 -- Two's complement over any half range h: what the field readers compute is the whole number that the definition names.
 use Prim.Native.Nat.{ℕ, zero, suc, ◌+◌, ◌-◌, ◌*◌, ◌%◌, ◌^◌, ◌≤◌, ◌<◌}
-use mathlib.Core.Path.{◌≡◌, refl, sym, ap, subst, ◌∙◌}
+use mathlib.Core.Path.{◌≡◌, refl, ap, subst, ◌∙◌}
 use mathlib.Core.Bool.{Bool, true, false, not, ◌&&◌}
 use native.Mathlib.Nat.{mod-lt, mod-eq_of_lt, mod-eq-sub-mod}
 use native.Mathlib.Omega.{arith}
@@ -88,7 +88,7 @@ module _ (h x : ℕ) (b : x < 2 * h) (s : h ≤ 2 ^ 30) where
 
 -- A number in the range of an i32 is kept by its bits
 pub kept : (z : ℤ) → mag z < 2 ^ 31 → to_z w32 (of_z w32 z) ≡ z
-kept z h = to_z-of_z (record { sfits = h })
+kept z h = to_z-of_z {w = w32} {z = z} (record { sfits = h })
 
 -- The other way: what is made of a number
 module _ (h : ℕ) (z : ℤ) (small : mag z < h) (s : h ≤ 2 ^ 25) where

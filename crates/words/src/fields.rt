@@ -6,7 +6,7 @@ use crate::layout;
 use crate::layout::{I_HALF, I_RANGE, J_HALF, J_RANGE};
 
 // The four fields of five bits.
-#[derive(Drop)]
+#[derive(Clone, Copy)]
 pub(crate) struct Fields {
     pub rs1: u8,
     // RD of an I word, RS2 of an R word.

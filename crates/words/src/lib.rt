@@ -1,5 +1,8 @@
 // The instruction words of document 01, "Words": the 58 legal instructions, the reader of a word and the maker of one.
-// Every number stands once more in specs/Words.antt, in the document's order; the promises below hold the two together.
+// Every number stands once more in specs/Words.antt, in the document's order, and what each instruction touches in
+// specs/Touches.antt; the promises below hold them together.
+#![tactic(auto)]
+
 ghost use Rattle.std.specs.Prelude.{◌≡◌};
 ghost use Rattle.words.specs.Words.{reading, reading_answer, making, made_answer};
 
@@ -9,16 +12,21 @@ mod maker;
 mod members;
 mod numbers;
 mod reader;
+mod touching;
 
 use maker::{immediate, jump, register};
 use numbers::{
     ARITHMETIC_REGISTER, COMPARE_REGISTER, SHIFT_REGISTER, arithmetic_immediate, compare_immediate,
     load, shift_immediate, store,
 };
+pub use touching::touches_of;
+
+// The register that jal and jalr write.
+pub const LINK: u8 = 31;
 
 // The instructions, grouped as tables 1.2 to 1.4 group them. A variant carries only the fields that its syntax uses, in
 // the syntax's order. Registers and SA are numbers that a made-up value may have out of range; `make` refuses those.
-#[derive(Drop)]
+#[derive(Clone, Copy)]
 pub enum Instruction {
     // slli, slai, srli, srai RD,RS1,SA
     ShiftImmediate(Shift, u8, u8, u8),
@@ -71,7 +79,7 @@ pub enum Instruction {
 }
 
 // The four shifts, by register or by SA.
-#[derive(Drop)]
+#[derive(Clone, Copy)]
 pub enum Shift {
     Sll,
     Sla,
@@ -80,7 +88,7 @@ pub enum Shift {
 }
 
 // The seven sums, differences and logical operations, on a register or an immediate. A name that ends in o may overflow.
-#[derive(Drop)]
+#[derive(Clone, Copy)]
 pub enum Arithmetic {
     Addo,
     Add,
@@ -92,7 +100,7 @@ pub enum Arithmetic {
 }
 
 // The six comparisons, with a register or an immediate.
-#[derive(Drop)]
+#[derive(Clone, Copy)]
 pub enum Comparison {
     Sgr,
     Seq,
@@ -103,7 +111,7 @@ pub enum Comparison {
 }
 
 // The five loads.
-#[derive(Drop)]
+#[derive(Clone, Copy)]
 pub enum LoadKind {
     Lb,
     Lh,
@@ -113,15 +121,50 @@ pub enum LoadKind {
 }
 
 // The three stores.
-#[derive(Drop)]
+#[derive(Clone, Copy)]
 pub enum StoreKind {
     Sb,
     Sh,
     Sw,
 }
 
+// The general registers that an instruction reads, in order: RS1, then RS2 or a store's RD.
+#[derive(Clone, Copy)]
+pub enum Reads {
+    None,
+    One(u8),
+    Two(u8, u8),
+}
+
+// The general register that an instruction writes: none for R0.
+#[derive(Clone, Copy)]
+pub enum Writes {
+    None,
+    One(u8),
+}
+
+// What an instruction does with the special registers.
+#[derive(Clone, Copy)]
+pub enum Special {
+    None,
+    // movs2i: the one that it reads.
+    Read(u8),
+    // movi2s: the one that it writes.
+    Written(u8),
+    // rfe, a kind of its own.
+    Return,
+}
+
+// What an instruction touches.
+#[derive(Clone, Copy)]
+pub struct Touches {
+    pub reads: Reads,
+    pub writes: Writes,
+    pub special: Special,
+}
+
 // What reading a word answers.
-#[derive(Drop)]
+#[derive(Clone, Copy)]
 pub enum Reading {
     Legal(Instruction),
     // 23
@@ -129,7 +172,7 @@ pub enum Reading {
 }
 
 // What making a word answers.
-#[derive(Drop)]
+#[derive(Clone, Copy)]
 pub enum Made {
     Word(u32),
     // 14

@@ -9,4 +9,4 @@ use Rattle.words.proofs.reader.system.Tie as tie
 use Rattle.words.specs.declared.Instruction.TheVariants.{Trap, Rfe}
 
 pub system_spec : {M : Type 1} → statement M
-system_spec = tie.close (tie.spec (λ c κs. search rules) (λ c. simp (kept c.immediate26-of.result c.immediate26-of.type-inv ∙ c.immediate26-of.ensures, leads (Trap (pos 0)) c.before.before.args.word (omega arith) refl)) (λ c. simp (leads Rfe c.before.args.word (omega arith) refl)))
+system_spec = tie.close (tie.spec (λ c κs. search rules) (λ c. simp (kept c.immediate26_of.result c.immediate26_of.type_inv ∙ c.immediate26_of.ensures, leads (Trap (pos 0)) c.before.before.args.word (omega arith) refl)) (λ c. simp (leads Rfe c.before.args.word (omega arith) refl)))

@@ -12,8 +12,6 @@ use Rattle.words.specs.declared.Writes.TheVariants as into
 use Rattle.words.specs.declared.Special.{Special}
 use Rattle.words.specs.declared.Special.TheVariants.{None, Read, Written, Return}
 use Rattle.words.specs.declared.Touches.{Touches}
-use Rattle.words.specs.declared.Reading.{Reading}
-use Rattle.words.specs.declared.Reading.TheVariants.{Legal, Illegal}
 
 -- ---- The table
 
@@ -77,7 +75,7 @@ number_of (some n) = n
 abbrev pub special : ℕ → Special
 special w = (touched w).2
 
--- ---- The values of each answer of the reader
+-- ---- The values of each answer
 
 abbrev pub reads_of : Reads → List ℕ
 reads_of general.None = []
@@ -90,12 +88,3 @@ writes_of (into.One n) = some n
 
 abbrev pub touches_of_lem : Touches → Touch
 touches_of_lem t = (reads_of t.reads, writes_of t.writes, t.special)
-
--- The number and the instruction, as without what is touched, and what is touched
-abbrev pub reading_answer : Reading → ℕ × Option Instruction
-reading_answer (Legal i t) = (0, some i)
-reading_answer Illegal = (23, none)
-
-abbrev pub reading_touches : Reading → Touch
-reading_touches (Legal i t) = touches_of_lem t
-reading_touches Illegal = ([], none, None)

@@ -4,7 +4,7 @@ ghost use Rattle.words.specs.Touches.{touches, touches_of_lem, reads_of, writes_
 
 use crate::{Instruction, LINK, Reads, Special, Touches, Writes};
 
-pub(crate) fn touches_of(instruction: Instruction) -> Touches
+pub fn touches_of(instruction: Instruction) -> Touches
     ensures { touches_of_lem result ≡ touches instruction }
 {
     match instruction {
