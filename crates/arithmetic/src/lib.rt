@@ -1,4 +1,6 @@
 // The rulings on words: each is a leaf with the document's own definition.
+#![tactic(auto)]
+
 ghost use Rattle.std.specs.Prelude.{◌≡◌, ◌+◌, ◌%◌, ◌^◌, ◌<◌, ◌≤◌, pos, ◌+ℤ◌, ◌-ℤ◌, int_lt};
 ghost use Rattle.std.specs.Int.Signed.{shr_z};
 ghost use Rattle.arithmetic.specs.Rulings.{sext, shifted, high, integer, bit, compared, minus, beyond};
