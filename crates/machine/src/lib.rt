@@ -1,5 +1,7 @@
 // The machine record, and what an instruction does: one meaning for both machines, as an effect on the registers and a
 // request to memory.
+#![tactic(auto)]
+
 ghost use Rattle.std.specs.Prelude.{◌≡◌};
 ghost use Rattle.machine.specs.Effects.{meaning, applied};
 ghost use Rattle.machine.specs.Record.{zeros};
@@ -16,14 +18,14 @@ use std::num::wrapping_add_u32;
 use words::{Instruction, LoadKind, StoreKind};
 
 // A region of `words` words from `start` on.
-#[derive(Drop)]
+#[derive(Clone, Copy)]
 pub struct Region {
     pub start: u32,
     pub words: u32,
 }
 
 // A machine: its two regions, its step limit, the counters DPC and PC', and the general and the special registers.
-#[derive(Drop)]
+#[derive(Clone, Copy)]
 pub struct Machine {
     pub code: Region,
     pub data: Region,
@@ -96,7 +98,7 @@ impl Machine {
 }
 
 // What an instruction does besides moving the counters on.
-#[derive(Drop)]
+#[derive(Clone, Copy)]
 pub enum Effect {
     // A general register takes a value.
     Put(u8, u32),
@@ -117,7 +119,7 @@ pub enum Effect {
 }
 
 // An effect, and the next PC'.
-#[derive(Drop)]
+#[derive(Clone, Copy)]
 pub struct Act {
     pub effect: Effect,
     pub next: u32,

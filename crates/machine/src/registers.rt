@@ -22,12 +22,15 @@ pub(crate) fn write(gpr: &mut [u32; 32], number: u8, value: u32)
     gpr[at] = value;
 }
 
+// The last of the special registers that follow one another; MODE stands alone.
+const LAST: usize = Machine::EMODE;
+
 // A write to a special register that is none of the thirteen is dropped.
 pub(crate) fn write_special(spr: &mut [u32; 32], number: u8, value: u32)
     ensures { spr.new ≡ put_special spr.old number value }
 {
     let at = number as usize;
-    if at <= Machine::EMODE {
+    if at <= LAST {
         spr[at] = value;
         return;
     }

@@ -1,5 +1,5 @@
--- Document 02, request Six: what the reader says that a word touches is what a step of it touches. A step of either machine leaves `moved w v s`, v being what a load found.
-use Rattle.std.proofs.Common.{◌≡◌, ℕ, zero, suc, ◌%◌, ◌<◌, Bool, true, false, T, eqb, ◌⊎◌, List, [], ◌∷◌, length, get_or, set, sym, refl, ap, ◌∙◌, subst, ap₂, inl, inr, arith, length-set, get_or-set_other, get_or-set_same, ne_eqb, eqb-true}
+-- Document 02, request Six: what a word is said to touch is what a step of it touches. A step of either machine leaves `moved w v s`, v being what a load found.
+use Rattle.std.proofs.Common.{◌≡◌, ℕ, ◌%◌, ◌<◌, Bool, true, false, eqb, ◌⊎◌, List, [], ◌∷◌, length, get_or, set, sym, refl, ap, ◌∙◌, subst, ap₂, inl, inr, arith, length-set, get_or-set_other, get_or-set_same, ne_eqb, eqb-true}
 use mathlib.Core.Option.{Option, none, some}
 use borrow.Author.Tests.{eqb-false}
 use Rattle.words.specs.Fields.{pick, field, rs1, second, third}
@@ -13,9 +13,8 @@ use Rattle.words.specs.declared.Instruction.{Instruction}
 use Rattle.words.specs.declared.Instruction.TheVariants.{ShiftImmediate, ShiftRegister, Movs2i, Movi2s, ArithmeticRegister, Lhg, Clr, CompareRegister, Set, J, Jal, Trap, Rfe, Beqz, Bnez, ArithmeticImmediate, Lhgi, Jr, Jalr, Clri, CompareImmediate, Seti, Load, Store}
 use Rattle.words.proofs.Again.{read_filled}
 use Rattle.words.proofs.Numbering.{filled}
-use Rattle.words.proofs.Signed.{false_true}
 use Rattle.words.proofs.Touched.{touched_legal, touched_illegal, never_r0}
-use Rattle.arithmetic.specs.Rulings.{plus, sext}
+use Rattle.arithmetic.specs.Rulings.{plus}
 use Rattle.machine.specs.declared.Effect.{Effect}
 use Rattle.machine.specs.declared.Effect.TheVariants as does
 use Rattle.machine.specs.Effects.{State, SR, ESR, EPC, EDPC, one_of, thirteen, register, put, put_special, computed, meaning, applied, act, moved}
@@ -163,7 +162,13 @@ to_field k w = by (eqb (field k w) 0) refl
 
 -- Sums, differences and logical operations put a value in RD
 computed_target : (a : Arithmetic) (d x y : ℕ) → (target (computed a d x y) ≡ d % 32) × (changes (computed a d x y) ≡ None)
-computed_target a d x y = elim a [ Addo ↦ (refl, refl) | Add ↦ (refl, refl) | Subo ↦ (refl, refl) | Sub ↦ (refl, refl) | And ↦ (refl, refl) | Or ↦ (refl, refl) | Xor ↦ (refl, refl) ]
+computed_target Addo d x y = (refl, refl)
+computed_target Add d x y = (refl, refl)
+computed_target Subo d x y = (refl, refl)
+computed_target Sub d x y = (refl, refl)
+computed_target And d x y = (refl, refl)
+computed_target Or d x y = (refl, refl)
+computed_target Xor d x y = (refl, refl)
 
 module _ (w pc : ℕ) (g p : List ℕ) where
   writes_said : (i : Instruction) → Said (meaning (filled i w) pc g p) (touches (filled i w))
