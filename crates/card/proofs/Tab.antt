@@ -2,7 +2,7 @@
 use Prim.Native.Nat.{ℕ, zero, suc, ◌+◌, ◌≤◌, ◌<◌}
 use mathlib.Core.Path.{◌≡◌, refl, sym, ap, ◌∙◌}
 use mathlib.Core.Bool.{Bool, true, false}
-use mathlib.Core.List.{List, [], ◌∷◌, ◌++◌, append_assoc, append_nil}
+use mathlib.Core.List.{List, [], ◌∷◌, ◌++◌, append_assoc, append-nil}
 use native.Mathlib.Nat.{add-zero, add-suc}
 use native.Mathlib.Numerals.{add-one}
 use native.Mathlib.Omega.{arith}
@@ -36,7 +36,7 @@ tab_past f n i l = get_or-eq_default (tab f n) 0 (let k : length (tab f n) ≡ n
 -- Where f is 0 from k on, so is the rest of the list
 pub tab_zeros : (f : ℕ → ℕ) (k m : ℕ) → ((i : ℕ) → k ≤ i → f i ≡ 0) → tab f (k + m) ≡ tab f k ++ replicate m 0
 unfolding tab
-tab_zeros f k zero z = rw (add-zero k) (sym (append_nil (tab f k)))
+tab_zeros f k zero z = rw (add-zero k) (sym (append-nil (tab f k)))
 tab_zeros f k (suc m) z =
     rw (add-suc k m, z (k + m) (omega arith), tab_zeros f k m z)
     (append_assoc (tab f k) (replicate m 0) (0 ∷ []) ∙ ap (λ (l : List ℕ). tab f k ++ l) (replicate-append-replicate m 1 0 ∙ ap (λ (n : ℕ). replicate n 0) (add-one m)))
@@ -74,8 +74,8 @@ pub filling_all : (f : ℕ → ℕ) {d₀ d : List ℕ} {i : ℕ} (n : ℕ) → 
 filling_all f {d₀} {d} {i} n p k l =
     let w : i ≤ length d₀ = p.within in
     let e : i ≡ n = omega arith in
-    p.filled ∙ ap (λ (t : List ℕ). tab f i ++ t) (drop_of_length-le d₀ {i = i} (omega arith)) ∙ append_nil (tab f i) ∙ ap (tab f) e
+    p.filled ∙ ap (λ (t : List ℕ). tab f i ++ t) (drop_of_length-le d₀ {i = i} (omega arith)) ∙ append-nil (tab f i) ∙ ap (tab f) e
   where
-    append_nil : (xs : List ℕ) → xs ++ [] ≡ xs
-    append_nil [] = refl
-    append_nil (x ∷ xs) = ap (λ (t : List ℕ). x ∷ t) (append_nil xs)
+    append-nil : (xs : List ℕ) → xs ++ [] ≡ xs
+    append-nil [] = refl
+    append-nil (x ∷ xs) = ap (λ (t : List ℕ). x ∷ t) (append-nil xs)

@@ -50,9 +50,9 @@ fn word_of(card: &[u8], from: usize, count: u32, i: usize) -> u32
 
 // Fills VAMP memory, c and d being the code and the data region.
 fn fill_memory(c: Region, d: Region, code: &[u32], words: &[u32], memory: &mut [u64])
-    requires fact_1 { Held c code.now }
-    requires fact_2 { Held d words.now }
-    requires fact_3 { length memory.old ≤ DOUBLE_WORDS }
+    requires code_held { Held c code.now }
+    requires data_held { Held d words.now }
+    requires memory_length { length memory.old ≤ DOUBLE_WORDS }
     ensures { memory.new ≡ tab (double c d code.now words.now) (length memory.old) }
 {
     let mut i = 0;
@@ -64,9 +64,9 @@ fn fill_memory(c: Region, d: Region, code: &[u32], words: &[u32], memory: &mut [
 
 // Double word `i` of VAMP memory: the word at 8i below the word at 8i + 4.
 fn double_of(c: Region, d: Region, code: &[u32], words: &[u32], i: usize) -> u64
-    requires fact_1 { Held c code.now }
-    requires fact_2 { Held d words.now }
-    requires fact_3 { i < DOUBLE_WORDS }
+    requires code_held { Held c code.now }
+    requires data_held { Held d words.now }
+    requires within { i < DOUBLE_WORDS }
     ensures { result ≡ double c d code.now words.now i }
 {
     let address = 8 * (i as u32);
@@ -77,8 +77,8 @@ fn double_of(c: Region, d: Region, code: &[u32], words: &[u32], i: usize) -> u64
 
 // The word at an address.
 fn word_at(c: Region, d: Region, code: &[u32], words: &[u32], address: u32) -> u32
-    requires fact_1 { Held c code.now }
-    requires fact_2 { Held d words.now }
+    requires code_held { Held c code.now }
+    requires data_held { Held d words.now }
     ensures { result ≡ image c d code.now words.now address }
 {
     if contains(c, address) {
@@ -92,8 +92,8 @@ fn word_at(c: Region, d: Region, code: &[u32], words: &[u32], address: u32) -> u
 
 // The word of a region at an address that it holds.
 fn word_in(region: Region, words: &[u32], address: u32) -> u32
-    requires fact_1 { Held region words.now }
-    requires fact_2 { holds region address ≡ true }
+    requires held { Held region words.now }
+    requires inside { holds region address ≡ true }
     ensures { result ≡ word_at region words.now address }
 {
     let at = ((address - region.start) / 4) as usize;
