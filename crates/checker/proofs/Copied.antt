@@ -1,5 +1,5 @@
 -- A buffer that a loop makes equal to another from the front.
-use Rattle.std.proofs.Common.{◌≡◌, ℕ, ◌+◌, ◌<◌, ◌≤◌, Bool, true, false, eqb, List, length, get_or, set, sym, refl, ◌∙◌, arith, get_or-set_other, get_or-set_same, ext_get_or, eqb-true}
+use Rattle.std.proofs.Common.{◌≡◌, ℕ, ◌+◌, ◌<◌, ◌≤◌, Bool, true, false, eqb, List, length, get_or, set, refl, ◌∙◌, arith, get_or-set_other, get_or-set_same, ext_get_or, eqb-true}
 use borrow.Author.Tests.{eqb-false}
 
 -- The first i places are equal

@@ -45,15 +45,18 @@ fn explain_at(
     }
 }
 
+// The step that made the PC' which a step fetches by is so many steps before it.
+const DELAY: u32 = 2;
+
 // What led to the DPC of a step: for 21 and 22.
 fn led(machine: Machine, step: u32, code: &[u32], words: &mut [u32]) -> Explanation
     requires { Passed machine code.now words.old step }
     ensures { result ≡ led_lem machine.code machine.«data» code.now (state_of machine, words.old) step }
 {
-    if step < 2 {
+    if step < DELAY {
         return Explanation::Card;
     }
-    let at = step - 2;
+    let at = step - DELAY;
     let retraced = retrace(machine, at, code, words);
     let dpc = retraced.dpc;
     let gpr = retraced.gpr;

@@ -15,7 +15,7 @@ use words::Reading;
 
 // A step taken, with the new counters and the general register that it wrote (0 for none), or stopped, with the number of the
 // test and the word.
-#[derive(Drop)]
+#[derive(Clone, Copy)]
 pub(crate) enum Moved {
     On(u32, u32, u8),
     Stopped(u32, u32),
@@ -35,7 +35,8 @@ pub(crate) fn step(
     requires { Room fetches code.now × Room accesses words.old }
     ensures { Stepped fetches accesses code.now dpc pc gpr.old spr.old words.old result gpr.new spr.new words.new }
 {
-    if dpc % 4 != 0 {
+    let fetched = dpc;
+    if fetched % 4 != 0 {
         return Moved::Stopped(21, 0);
     }
     let offset = offset_of(fetches, dpc);

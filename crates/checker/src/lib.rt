@@ -1,4 +1,6 @@
 // The assembler machine, the level drawing: a checked step and a run of them, over the record and two lent buffers.
+#![tactic(auto)]
+
 ghost use Rattle.std.specs.Prelude.{◌≡◌};
 ghost use Rattle.checker.specs.Runs.{verdict_answer, stepping, runs};
 ghost use Rattle.checker.specs.Seven.{explaining};
@@ -17,7 +19,7 @@ use kept::copy;
 use machine::Machine;
 
 // What a step or a run answers.
-#[derive(Drop)]
+#[derive(Clone, Copy)]
 pub enum Verdict {
     // The number of the refusal.
     Refused(u32),
@@ -28,14 +30,14 @@ pub enum Verdict {
 }
 
 // The verdict, and the record that is handed back.
-#[derive(Drop)]
+#[derive(Clone, Copy)]
 pub struct Outcome {
     pub verdict: Verdict,
     pub machine: Machine,
 }
 
 // Where a general register's value came from.
-#[derive(Drop)]
+#[derive(Clone, Copy)]
 pub enum Source {
     // The card: no step wrote it.
     Card,
@@ -46,7 +48,7 @@ pub enum Source {
 }
 
 // Where the bad address of a violation came from.
-#[derive(Drop)]
+#[derive(Clone, Copy)]
 pub enum Explanation {
     // None is given: refused, accepted, or another violation than 21, 22, 25 and 26.
     None,
@@ -63,7 +65,7 @@ pub enum Explanation {
 }
 
 // The same, with the explanation.
-#[derive(Drop)]
+#[derive(Clone, Copy)]
 pub struct Explained {
     pub verdict: Verdict,
     pub machine: Machine,
@@ -101,8 +103,8 @@ pub fn check(machine: Machine, code: &[u32], words: &mut [u32]) -> Outcome
 
 // The same, with the explanation. What that needs is found after the run, by taking its steps once more from a copy of the data.
 pub fn run(machine: Machine, code: &[u32], words: &mut [u32]) -> Explained
-    ensures fact { ◌≡◌ (verdict_answer result.verdict, result.machine, words.new) (runs machine code.now words.old) }
-    ensures explanation_value { result.explanation ≡ explaining machine code.now words.old (runs machine code.now words.old).0 }
+    ensures ran { ◌≡◌ (verdict_answer result.verdict, result.machine, words.new) (runs machine code.now words.old) }
+    ensures explained { result.explanation ≡ explaining machine code.now words.old (runs machine code.now words.old).0 }
 {
     let number = refused::of_run(machine, code.len(), words.len());
     if number != 0 {

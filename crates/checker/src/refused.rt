@@ -7,11 +7,14 @@ use machine::refusals::{
     not_zero, over_limit, overlaps, past_memory, unaligned_start, wrong_count,
 };
 
+// The length of the buffer of code.
+const CODE: usize = Machine::WORDS;
+
 // The number of the refusal that a step answers, or 0.
 pub(crate) fn of_step(machine: Machine, code: usize, words: usize) -> u32
     ensures { result ≡ step_refusal machine code words }
 {
-    if code != Machine::WORDS {
+    if code != CODE {
         return 1;
     }
     if words != Machine::WORDS {

@@ -8,7 +8,7 @@ use machine::{Machine, Region};
 
 // DPC and the general registers after the steps, and of each register's last writer one more than its step (0 where there is
 // none) and its DPC.
-#[derive(Drop)]
+#[derive(Clone, Copy)]
 pub(crate) struct Retraced {
     pub dpc: u32,
     pub gpr: [u32; 32],

@@ -8,7 +8,7 @@ use crate::{Outcome, Verdict};
 use machine::{Machine, Region};
 
 // The verdict and the counters that a run leaves, and the general register that its last step wrote (0 for none).
-#[derive(Drop)]
+#[derive(Clone, Copy)]
 pub(crate) struct Ran {
     pub verdict: Verdict,
     pub dpc: u32,

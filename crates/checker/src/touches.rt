@@ -17,7 +17,7 @@ const BNEZ: u32 = 0x05;
 const JR: u32 = 0x16;
 
 // How a word leaves PC': on to the next word, by a taken transfer, or by jr, with its register.
-#[derive(Drop)]
+#[derive(Clone, Copy)]
 pub(crate) enum Turn {
     On,
     Taken,

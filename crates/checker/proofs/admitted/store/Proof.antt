@@ -1,6 +1,0 @@
-use Rattle.std.proofs.Common.{rules}
-use Rattle.checker.proofs.admitted.store.Statement.{statement}
-use Rattle.checker.proofs.admitted.store.Tie as tie
-
-pub store_spec : {M : Type 1} → statement M
-store_spec = tie.close (tie.spec (λ c. search rules) (λ c. search rules) (λ c. search rules) (λ c. simp c.enum_told.given.1) (λ c. simp c.enum-told2.given.1) (λ c. simp c.enum-told3.given.1))
