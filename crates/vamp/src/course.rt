@@ -11,7 +11,7 @@ use machine::Machine;
 use words::Reading;
 
 // The steps taken, the answer of the last step, how many of the steps taken reported a cause, and the counters.
-#[derive(Drop)]
+#[derive(Clone, Copy)]
 pub(crate) struct Course {
     pub steps: u32,
     pub answer: Answer,
@@ -21,12 +21,15 @@ pub(crate) struct Course {
 }
 
 // The answer of a step, and the counters after it.
-#[derive(Drop)]
+#[derive(Clone, Copy)]
 struct Moved {
     answer: Answer,
     dpc: u32,
     pc: u32,
 }
+
+// The number of a step that is taken: a course goes on behind it.
+const TAKEN: u32 = 0;
 
 // Up to `limit` steps, that stop before the first one whose answer is not 0.
 pub(crate) fn go(
@@ -48,7 +51,7 @@ pub(crate) fn go(
     while steps < limit {
         let moved = one(at, next, gpr, spr, memory);
         let answer = moved.answer;
-        if answer.number() != 0 {
+        if answer.number() != TAKEN {
             return Course {
                 steps,
                 answer,

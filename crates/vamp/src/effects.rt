@@ -13,7 +13,7 @@ use machine::sizes::{load_askew, store_askew};
 use words::{LoadKind, StoreKind};
 
 // The answer of a step by its effect, and what the effect's load found.
-#[derive(Drop)]
+#[derive(Clone, Copy)]
 pub(crate) struct Touched {
     pub answer: Answer,
     pub loaded: u32,

@@ -1,5 +1,7 @@
 // The VAMP machine: double-word memory, the events of a step in their order, the step and sequences of steps. What an
 // instruction does is taken from `machine`.
+#![tactic(auto)]
+
 ghost use Rattle.std.specs.Prelude.{◌≡◌};
 ghost use Rattle.vamp.specs.Steps.{answered, stepping, running};
 
@@ -12,7 +14,7 @@ use machine::Machine;
 use machine::refusals::not_zero;
 
 // What a call answers: the document's number, and the cause word.
-#[derive(Drop)]
+#[derive(Clone, Copy)]
 pub enum Answer {
     // 0, stepped, with an empty cause word.
     Stepped,
@@ -84,7 +86,7 @@ impl Answer {
 }
 
 // What one step answers, and the machine after it.
-#[derive(Drop)]
+#[derive(Clone, Copy)]
 pub struct Stepped {
     pub answer: Answer,
     pub machine: Machine,
@@ -92,7 +94,7 @@ pub struct Stepped {
 
 // What a sequence of steps answers: the steps taken, the answer of the last step, how many of the steps taken reported a
 // cause, and the machine after them.
-#[derive(Drop)]
+#[derive(Clone, Copy)]
 pub struct Ran {
     pub steps: u32,
     pub answer: Answer,
