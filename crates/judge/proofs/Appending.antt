@@ -1,7 +1,7 @@
 -- A line written byte after byte: what is left of a text, put after what is written, comes to the whole.
 use Prim.Native.Nat.{ℕ, zero, suc, ◌+◌, ◌-◌, ◌/◌, ◌%◌, ◌^◌, ◌≤◌, ◌<◌}
 use mathlib.Core.Path.{◌≡◌, refl, sym, ap, ◌∙◌}
-use mathlib.Core.List.{List, [], ◌∷◌, ◌++◌, append_assoc, append_nil}
+use mathlib.Core.List.{List, [], ◌∷◌, ◌++◌, append_assoc, append-nil}
 use native.Mathlib.Nat.{pow-succ', div-one, pow-zero, div-div-eq-div-mul}
 use native.Mathlib.Omega.{arith}
 use lib.ListN.{length, get_or, drop, replicate, length-append, drop_of_length-le}
@@ -47,7 +47,7 @@ push_line t b h =
     (set_at t 0 (replicate (SIZE - suc (length t)) 0) b (length t) refl ∙ sym (append_assoc t (b ∷ []) (replicate (SIZE - suc (length t)) 0))))
 
 append_line : (t u : List ℕ) → length t + length u ≤ SIZE → appended (line_of t) u ≡ line_of (t ++ u)
-append_line t [] h = append_none (line_of t) ∙ ap line_of (sym (append_nil t))
+append_line t [] h = append_none (line_of t) ∙ ap line_of (sym (append-nil t))
 append_line t (b ∷ bs) h =
     let k : length (t ++ b ∷ []) ≡ length t + 1 = length-append t (b ∷ []) in
     append_one (line_of t) b bs
@@ -63,7 +63,7 @@ then l t u e f = f ∙ ap (λ (x : Line). appended x u) e ∙ append_append l t 
 
 -- Nothing comes after the last of the texts that are joined
 pub last : (l : Line) (t : List ℕ) {r : Line} → r ≡ appended l t → r ≡ appended l (t ++ [])
-last l t e = e ∙ ap (appended l) (sym (append_nil t))
+last l t e = e ∙ ap (appended l) (sym (append-nil t))
 
 append_length : (l : Line) (t : List ℕ) → (appended l t).len ≡ l.len + length t
 unfolding appended

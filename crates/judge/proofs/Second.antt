@@ -1,7 +1,7 @@
 -- The second line determines the explanation: there is no line exactly where there is none, and any other ends as a line does.
 use Prim.Native.Nat.{ℕ, ◌^◌, ◌<◌}
 use mathlib.Core.Path.{◌≡◌, refl, sym, ap, ◌∙◌}
-use mathlib.Core.List.{List, [], ◌∷◌, ◌++◌, append_assoc, append_nil}
+use mathlib.Core.List.{List, [], ◌∷◌, ◌++◌, append_assoc, append-nil}
 use native.Mathlib.Omega.{arith}
 use lib.ListN.{length, get_or, take, drop}
 use lib.Seq.{take_at, drop_at}
@@ -9,7 +9,6 @@ use Rattle.checker.specs.declared.Source.{Source}
 use Rattle.checker.specs.declared.Source.TheVariants as came
 use Rattle.checker.specs.declared.Explanation.{Explanation}
 use Rattle.checker.specs.declared.Explanation.TheVariants as by
-use Rattle.judge.specs.declared.Ruling.{Ruling}
 use Rattle.judge.specs.declared.lines.Line.{Line}
 use Rattle.judge.specs.Line.{decimal, hex, END, line_of}
 use Rattle.judge.specs.Because.{BECAUSE, step_text, source_text, from_text, register_text, card_text, ran_on_text, led_text, transfer_text, jr_text, because_text}
@@ -75,7 +74,7 @@ Same j d w j' d' w' t u = (j ≡ j') × (d ≡ d') × (w ≡ w') × (t ≡ u)
 step_parts : (j d w : ℕ) (t : List ℕ) → step_text j d w ++ t
     ≡ 115 ∷ 116 ∷ 101 ∷ 112 ∷ 32 ∷ (decimal j ++ 32 ∷ 97 ∷ 116 ∷ 32 ∷ (hex d ++ 32 ∷ 119 ∷ 111 ∷ 114 ∷ 100 ∷ 32 ∷ (hex w ++ t)))
 unfolding step_text
-step_parts j d w t = rw (append_assoc (decimal j) _ t, append_assoc (hex d) _ t, append_nil (hex w))
+step_parts j d w t = rw (append_assoc (decimal j) _ t, append_assoc (hex d) _ t, append-nil (hex w))
 
 step_decides : (j d w j' d' w' : ℕ) (t u : List ℕ) → Words j d w → Words j' d' w' → step_text j d w ++ t ≡ step_text j' d' w' ++ u → Same j d w j' d' w' t u
 step_decides j d w j' d' w' t u p q e =
@@ -89,7 +88,7 @@ led_decides : (j d w j' d' w' : ℕ) (t u : List ℕ) → Words j d w → Words 
 unfolding led_text
 led_decides j d w j' d' w' t u p q e =
     let f = ap (λ (x : List ℕ). drop 17 x) e in
-    step_decides j d w j' d' w' t u p q (ap (λ (x : List ℕ). x ++ t) (sym (append_nil (step_text j d w))) ∙ f ∙ ap (λ (x : List ℕ). x ++ u) (append_nil (step_text j' d' w')))
+    step_decides j d w j' d' w' t u p q (ap (λ (x : List ℕ). x ++ t) (sym (append-nil (step_text j d w))) ∙ f ∙ ap (λ (x : List ℕ). x ++ u) (append-nil (step_text j' d' w')))
 
 -- ---- A register and its source, at the end of the line
 
@@ -112,7 +111,7 @@ source_decides (came.Step j d w) (came.Step j' d' w') p q e = let a = step_decid
 
 from_parts : (n : ℕ) (s : Source) (t : List ℕ) → from_text n s ++ t ≡ 114 ∷ (decimal n ++ 32 ∷ 102 ∷ 114 ∷ 111 ∷ 109 ∷ 32 ∷ (source_text s ++ t))
 unfolding from_text
-from_parts n s t = rw (append_assoc (decimal n) _ t, append_nil (source_text s))
+from_parts n s t = rw (append_assoc (decimal n) _ t, append-nil (source_text s))
 
 from_decides : (n n' : ℕ) (s s' : Source) → n < 2 ^ 8 → n' < 2 ^ 8 → SizedSource s → SizedSource s' → from_text n s ++ END ≡ from_text n' s' ++ END → (n ≡ n') × (s ≡ s')
 from_decides n n' s s' k l p q e =

@@ -1,5 +1,5 @@
 -- Document 02, request Seven: the second line, which says where the bad address came from.
-use Rattle.std.specs.Prelude.{ℕ, List, [], ◌∷◌, ◌++◌}
+use Rattle.std.specs.Prelude.{ℕ, List, [], ◌∷◌}
 use Rattle.checker.specs.declared.Source.{Source}
 use Rattle.checker.specs.declared.Source.TheVariants as came
 use Rattle.checker.specs.declared.Explanation.{Explanation}

@@ -4,8 +4,8 @@ ghost use Rattle.judge.specs.Digits.{glyph as glyph_lem, places as places_lem};
 
 // Digit k of n, counted from the last.
 pub(crate) fn digit(n: u32, base: u32, k: u32) -> u8
-    requires fact_1 { 0 < base }
-    requires fact_2 { base ≤ 16 }
+    requires base_low { 0 < base }
+    requires base_high { base ≤ 16 }
     ensures { result ≡ glyph_lem (n / base ^ k % base) }
 {
     let mut rest = n;

@@ -1,5 +1,7 @@
 // Card bytes to a ruling, and a ruling to its line: document 01, "The verdict line". With a violation where its bad address came
 // from, and the second line that says so: document 02, request Seven.
+#![tactic(auto)]
+
 ghost use Rattle.std.specs.Prelude.{◌≤◌, ◌≡◌, length};
 ghost use Rattle.machine.specs.Record.{DOUBLE_WORDS, LONGEST};
 ghost use Rattle.judge.specs.Judging.{answer_of, judging, explained_by};
@@ -19,7 +21,7 @@ use lines::{accepted, empty, refused, violation};
 use machine::Machine;
 
 // What is said of a card.
-#[derive(Drop)]
+#[derive(Clone, Copy)]
 pub enum Ruling {
     // The number of the refusal.
     Refused(u32),
@@ -41,9 +43,9 @@ pub fn judge(card: &[u8]) -> Ruling
 
 // The same, in buffers of the right lengths.
 fn judge_in(card: &[u8], code: &mut [u32], words: &mut [u32], memory: &mut [u64]) -> Ruling
-    requires fact_1 { length code.old ≡ LONGEST }
-    requires fact_2 { length words.old ≡ LONGEST }
-    requires fact_3 { length memory.old ≡ DOUBLE_WORDS }
+    requires code_length { length code.old ≡ LONGEST }
+    requires data_length { length words.old ≡ LONGEST }
+    requires memory_length { length memory.old ≡ DOUBLE_WORDS }
     ensures { answer_of result ≡ judging card.now }
 {
     let loaded = load(card, code, words, memory);
@@ -78,9 +80,9 @@ pub fn explain(card: &[u8]) -> Explanation
 
 // The same, in buffers of the right lengths.
 fn explain_in(card: &[u8], code: &mut [u32], words: &mut [u32], memory: &mut [u64]) -> Explanation
-    requires fact_1 { length code.old ≡ LONGEST }
-    requires fact_2 { length words.old ≡ LONGEST }
-    requires fact_3 { length memory.old ≡ DOUBLE_WORDS }
+    requires code_length { length code.old ≡ LONGEST }
+    requires data_length { length words.old ≡ LONGEST }
+    requires memory_length { length memory.old ≡ DOUBLE_WORDS }
     ensures { result ≡ explained_by card.now }
 {
     let loaded = load(card, code, words, memory);

@@ -7,7 +7,7 @@ ghost use Rattle.judge.specs.Digits.{digits};
 use crate::digits::{digit, places};
 
 // The bytes of a line and how many they are; the bytes past them are zero.
-#[derive(Drop)]
+#[derive(Clone, Copy)]
 pub struct Line {
     pub bytes: [u8; 128],
     pub len: usize,
@@ -110,6 +110,9 @@ pub(crate) fn put_hex(line: Line, n: u32) -> Line
     put_digits(line, n, 16, 8)
 }
 
+// The violation of a DPC outside the code region.
+const OUTSIDE: u32 = 22;
+
 // The word of a violation: none for 21 and 22.
 fn put_word(line: Line, number: u32, word: u32) -> Line
     requires { line.len + 8 ≤ SIZE }
@@ -119,7 +122,7 @@ fn put_word(line: Line, number: u32, word: u32) -> Line
     if number == 21 {
         return put(line, b"-");
     }
-    if number == 22 {
+    if number == OUTSIDE {
         return put(line, b"-");
     }
     put_hex(line, word)
