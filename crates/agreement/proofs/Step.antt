@@ -1,5 +1,5 @@
 -- One step of both machines: where the checker finds nothing against it, the VAMP takes it with an empty cause word and the two stay the same.
-use Prim.Native.Nat.{ℕ, ◌%◌, ◌/◌, ◌-◌, ◌^◌, ◌≤◌, ◌<◌}
+use Prim.Native.Nat.{ℕ, ◌%◌, ◌/◌, ◌^◌, ◌≤◌, ◌<◌}
 use mathlib.Core.Path.{◌≡◌, refl, sym, ap, subst, ◌∙◌}
 use mathlib.Core.Bool.{Bool, true, false}
 use mathlib.Core.List.{List}

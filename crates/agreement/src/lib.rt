@@ -1,1 +1,2 @@
 // The drawing stands for the ship.
+#![tactic(auto)]
