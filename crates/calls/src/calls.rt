@@ -7,6 +7,8 @@ use crate::places::{CALL, MNEMONIC, OPERANDS, at};
 use crate::sailing::put_vamp;
 use crate::told::put_instruction;
 use show::put;
+use std::io;
+use std::io::Write;
 use words::{Made, Reading, make, read};
 
 // The kinds of calls.
@@ -30,35 +32,35 @@ const JUDGE: u32 = 8;
 
 const CHECKER_CHECK: u32 = 9;
 
-pub(crate) fn perform(places: &mut [u32]) {
+pub(crate) fn perform<W: Write>(out: &mut W, places: &mut [u32]) -> io::Result<()> {
     let call = at(places, CALL);
     match call {
-        NAME_ALONE => {}
-        READ => put_read(places),
-        MAKE => put_make(places),
-        CHECKER_STEP => put_checker(Way::Step, places),
-        CHECKER_RUN => put_checker(Way::Run, places),
-        VAMP_STEP => put_vamp(true, places),
-        VAMP_RUN => put_vamp(false, places),
-        LOAD => put_load(places),
-        JUDGE => put_judge(places),
-        CHECKER_CHECK => put_checker(Way::Check, places),
-        _ => put(b"not a call"),
+        NAME_ALONE => Ok(()),
+        READ => put_read(out, places),
+        MAKE => put_make(out, places),
+        CHECKER_STEP => put_checker(out, Way::Step, places),
+        CHECKER_RUN => put_checker(out, Way::Run, places),
+        VAMP_STEP => put_vamp(out, true, places),
+        VAMP_RUN => put_vamp(out, false, places),
+        LOAD => put_load(out, places),
+        JUDGE => put_judge(out, places),
+        CHECKER_CHECK => put_checker(out, Way::Check, places),
+        _ => put(out, b"not a call"),
     }
 }
 
-fn put_read(places: &[u32]) {
+fn put_read<W: Write>(out: &mut W, places: &[u32]) -> io::Result<()> {
     let reading = read(at(places, OPERANDS));
     match reading {
         Reading::Legal(instruction) => {
-            put(b"legal ");
-            put_instruction(instruction);
+            put(out, b"legal ")?;
+            put_instruction(out, instruction)
         }
-        Reading::Illegal => put(b"illegal 23"),
+        Reading::Illegal => put(out, b"illegal 23"),
     }
 }
 
-fn put_make(places: &[u32]) {
+fn put_make<W: Write>(out: &mut W, places: &[u32]) -> io::Result<()> {
     let instruction = instruction_of(
         at(places, MNEMONIC),
         at(places, OPERANDS),
@@ -68,9 +70,9 @@ fn put_make(places: &[u32]) {
     let made = make(instruction);
     match made {
         Made::Word(word) => {
-            put(b"made ");
-            put_hex(word);
+            put(out, b"made ")?;
+            put_hex(out, word)
         }
-        Made::Refused => put(b"refused 14"),
+        Made::Refused => put(out, b"refused 14"),
     }
 }

@@ -1,40 +1,43 @@
 // The inputs of a call, read into places. Each is three numbers: a place, a count, and what so many places from there on take.
 use crate::places::{CODE_LENGTH, DATA_LENGTH, MEMORY_LENGTH, set};
-use libc::STDIN_FILENO;
 use machine::Machine;
-use show::word;
+use show::{read_full, word};
+use std::io;
+use std::io::Read;
 
 const INPUT: usize = 12;
 
 // Whether there were so many. Where nothing is said the buffers have the right lengths.
-pub(crate) fn take_inputs(count: u32, given: &mut [u32]) -> bool {
+pub(crate) fn take_inputs<R: Read>(
+    input: &mut R,
+    count: u32,
+    given: &mut [u32],
+) -> io::Result<bool> {
     set(given, CODE_LENGTH, Machine::WORDS as u32);
     set(given, DATA_LENGTH, Machine::WORDS as u32);
     set(given, MEMORY_LENGTH, Machine::DOUBLE_WORDS as u32);
-    take_all(count, given)
+    take_all(input, count, given)
 }
 
-fn take_all(count: u32, given: &mut [u32]) -> bool {
-    let mut left = count;
-    while left > 0 {
-        if !take_one(given) {
-            return false;
+fn take_all<R: Read>(input: &mut R, count: u32, given: &mut [u32]) -> io::Result<bool> {
+    for _ in 0..count {
+        if !take_one(input, given)? {
+            return Ok(false);
         }
-        left -= 1;
     }
-    true
+    Ok(true)
 }
 
-fn take_one(given: &mut [u32]) -> bool {
-    let mut input = [0u8; INPUT];
-    if io::read_full(STDIN_FILENO, &mut input) < INPUT {
-        return false;
+fn take_one<R: Read>(input: &mut R, given: &mut [u32]) -> io::Result<bool> {
+    let mut bytes = [0u8; INPUT];
+    if read_full(input, &mut bytes)? < INPUT {
+        return Ok(false);
     }
-    let place = word(input[0], input[1], input[2], input[3]);
-    let count = word(input[4], input[5], input[6], input[7]);
-    let value = word(input[8], input[9], input[10], input[11]);
+    let place = word(bytes[0], bytes[1], bytes[2], bytes[3]);
+    let count = word(bytes[4], bytes[5], bytes[6], bytes[7]);
+    let value = word(bytes[8], bytes[9], bytes[10], bytes[11]);
     fill(given, place as usize, end_of(place, count), value);
-    true
+    Ok(true)
 }
 
 fn end_of(place: u32, count: u32) -> usize {
@@ -43,12 +46,10 @@ fn end_of(place: u32, count: u32) -> usize {
 
 // The places from one to before another, as far as there are places.
 fn fill(given: &mut [u32], from: usize, to: usize, value: u32) {
-    let mut i = from;
-    while i < given.len() {
+    for i in from..given.len() {
         if i >= to {
             return;
         }
         given[i] = value;
-        i += 1;
     }
 }

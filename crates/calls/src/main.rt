@@ -1,5 +1,7 @@
 // Makes the calls that standard input asks for, and writes a line for each: its name, what it answered, and what it left that is
 // not as the call gave it. docs/TESTS.md has the format. Nothing is decided here: each answer is a public call's own.
+#![tactic(auto)]
+
 mod calls;
 mod changes;
 mod checking;
@@ -17,73 +19,78 @@ mod told;
 use calls::perform;
 use changes::put_changes;
 use inputs::take_inputs;
-use libc::STDIN_FILENO;
 use places::PLACES;
 use records::keep;
-use show::{put, word};
+use show::{put, read_full, word};
+use std::io;
+use std::io::{Read, Write};
 
 // A count that no input reaches: the loop ends with its input.
-const CALLS: u64 = 0xFFFFFFFFFFFFFFFF;
+const CALLS: u64 = u64::MAX;
 
 // Room for a name.
 const NAME: usize = 4096;
 
-fn main() {
+fn main(rt: HostRuntime) -> io::Result<()> {
     let mut name = [0u8; NAME];
-    all(&mut name);
+    all(&mut rt.stdin(), &mut rt.stdout(), &mut name)
 }
 
-fn all(name: &mut [u8]) {
-    let mut left = CALLS;
-    while left > 0 {
-        if !one(name) {
-            return;
+fn all<R: Read, W: Write>(input: &mut R, out: &mut W, name: &mut [u8]) -> io::Result<()> {
+    for _ in 0..CALLS {
+        if !one(input, out, name)? {
+            break;
         }
-        left -= 1;
     }
+    Ok(())
 }
 
 // Whether there was a call. It begins with the length of its name and the number of its inputs.
-fn one(name: &mut [u8]) -> bool {
+fn one<R: Read, W: Write>(input: &mut R, out: &mut W, name: &mut [u8]) -> io::Result<bool> {
     let mut head = [0u8; 8];
-    let got = io::read_full(STDIN_FILENO, &mut head);
+    let got = read_full(input, &mut head)?;
     if got == 0 {
-        return false;
+        return Ok(false);
     }
     let length = word(head[0], head[1], head[2], head[3]) as usize;
     let inputs = word(head[4], head[5], head[6], head[7]);
     if got < 8 {
-        return cut();
+        return cut(out);
     }
     if length > name.len() {
-        return cut();
+        return cut(out);
     }
-    named(&mut name[0..length], inputs)
+    named(input, out, &mut name[0..length], inputs)
 }
 
 // An input that ends inside a call has to show in the output; nothing follows it.
-fn cut() -> bool {
-    put(b"the input ends inside a call\n");
-    false
+fn cut<W: Write>(out: &mut W) -> io::Result<bool> {
+    put(out, b"the input ends inside a call\n")?;
+    Ok(false)
 }
 
-fn named(name: &mut [u8], inputs: u32) -> bool {
-    if io::read_full(STDIN_FILENO, name) < name.len() {
-        return cut();
+fn named<R: Read, W: Write>(
+    input: &mut R,
+    out: &mut W,
+    name: &mut [u8],
+    inputs: u32,
+) -> io::Result<bool> {
+    if read_full(input, name)? < name.len() {
+        return cut(out);
     }
     let mut given = [0u32; PLACES];
-    if !take_inputs(inputs, &mut given) {
-        return cut();
+    if !take_inputs(input, inputs, &mut given)? {
+        return cut(out);
     }
-    put(name);
-    put_answer(&given);
-    true
+    put(out, name)?;
+    put_answer(out, &given)?;
+    Ok(true)
 }
 
-fn put_answer(given: &[u32]) {
+fn put_answer<W: Write>(out: &mut W, given: &[u32]) -> io::Result<()> {
     let mut left = [0u32; PLACES];
     keep(given, 0, &mut left);
-    perform(&mut left);
-    put_changes(given, &left);
-    put(b"\n");
+    perform(out, &mut left)?;
+    put_changes(out, given, &left)?;
+    put(out, b"\n")
 }

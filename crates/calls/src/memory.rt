@@ -18,12 +18,10 @@ pub(crate) fn lent(places: &[u32], place: usize, most: usize) -> usize
 
 // Each double word of two words, the lower first.
 pub(crate) fn take_memory(places: &[u32], memory: &mut [u64]) {
-    let mut i = 0;
     let mut place = MEMORY;
-    while i < memory.len() {
+    for i in 0..memory.len() {
         memory[i] = double(at(places, place), at(places, wrapping_add_usize(place, 1)));
         place = wrapping_add_usize(place, 2);
-        i += 1;
     }
 }
 
@@ -32,24 +30,19 @@ fn double(low: u32, high: u32) -> u64 {
 }
 
 pub(crate) fn keep_memory(memory: &[u64], places: &mut [u32]) {
-    let mut i = 0;
     let mut place = MEMORY;
-    while i < memory.len() {
-        let both = memory[i];
-        set(places, place, lower(both));
-        set(places, wrapping_add_usize(place, 1), upper(both));
+    for both in memory {
+        set(places, place, lower(*both));
+        set(places, wrapping_add_usize(place, 1), upper(*both));
         place = wrapping_add_usize(place, 2);
-        i += 1;
     }
 }
 
 // Four bytes of each word, the lowest first.
 pub(crate) fn take_bytes(places: &[u32], card: &mut [u8]) {
-    let mut i = 0;
-    while i < card.len() {
+    for i in 0..card.len() {
         let word = at(places, wrapping_add_usize(CARD, i / 4));
         card[i] = byte_of(word, i % 4);
-        i += 1;
     }
 }
 

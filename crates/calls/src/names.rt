@@ -2,6 +2,8 @@
 ghost use Rattle.std.specs.Prelude.{◌≤◌, length};
 
 use show::put;
+use std::io;
+use std::io::Write;
 
 const BLANK: u8 = 32;
 
@@ -17,21 +19,21 @@ pub(crate) const MNEMONICS: [u8; 254] = *b"slli slai srli srai sll sla srl sra m
     addio addi subio subi andi ori xori lhgi jr jalr clri sgri seqi sgei slsi snei slei seti \
     lb lh lw lbu lhu sb sh sw";
 
-pub(crate) fn put_name(names: &[u8], n: u32) {
+pub(crate) fn put_name<W: Write>(out: &mut W, names: &[u8], n: u32) -> io::Result<()> {
     let mut at = 0;
     let mut left = n;
     while at < names.len() {
         let end = name_end(names, at);
         if left == 0 {
-            put(&names[at..end]);
-            return;
+            return put(out, &names[at..end]);
         }
         left -= 1;
         if end == names.len() {
-            return;
+            break;
         }
         at = end + 1;
     }
+    Ok(())
 }
 
 // Where the name that starts at `from` ends: at a blank, or with the table.
@@ -40,12 +42,10 @@ fn name_end(names: &[u8], from: usize) -> usize
     ensures lower_bound { from ≤ result }
     ensures upper_bound { result ≤ length names.now }
 {
-    let mut i = from;
-    while i < names.len() {
+    for i in from..names.len() {
         if names[i] == BLANK {
             return i;
         }
-        i += 1;
     }
-    i
+    names.len()
 }

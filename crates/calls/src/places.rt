@@ -1,6 +1,8 @@
 // What a call is given, and what it leaves, is an array of words. A place is an index of it.
 use crate::names::{ARRAYS, NUMBERS, put_name};
 use show::put_number;
+use std::io;
+use std::io::Write;
 
 // The record's numbers.
 pub(crate) const CODE_START: usize = 0;
@@ -57,25 +59,25 @@ pub(crate) const DOUBLE_WORDS: usize = 2049;
 
 pub(crate) const BYTES: usize = 16384;
 
-pub(crate) fn put_place(place: usize) {
+pub(crate) fn put_place<W: Write>(out: &mut W, place: usize) -> io::Result<()> {
     if place < R {
-        put_name(&NUMBERS, place as u32);
+        put_name(out, &NUMBERS, place as u32)
     } else if place < SPR {
-        put_entry(0, place - R);
+        put_entry(out, 0, place - R)
     } else if place < CODE {
-        put_entry(1, place - SPR);
+        put_entry(out, 1, place - SPR)
     } else if place < DATA {
-        put_entry(2, place - CODE);
+        put_entry(out, 2, place - CODE)
     } else if place < MEMORY {
-        put_entry(3, place - DATA);
+        put_entry(out, 3, place - DATA)
     } else {
-        put_entry(4, place - MEMORY);
+        put_entry(out, 4, place - MEMORY)
     }
 }
 
-fn put_entry(array: u32, index: usize) {
-    put_name(&ARRAYS, array);
-    put_number(index as u64);
+fn put_entry<W: Write>(out: &mut W, array: u32, index: usize) -> io::Result<()> {
+    put_name(out, &ARRAYS, array)?;
+    put_number(out, index as u64)
 }
 
 // What a place holds.

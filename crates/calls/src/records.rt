@@ -56,17 +56,13 @@ fn numbers_of(machine: Machine) -> [u32; 7] {
 
 // The words of an array from a place on.
 pub(crate) fn take(places: &[u32], place: usize, words: &mut [u32]) {
-    let mut i = 0;
-    while i < words.len() {
+    for i in 0..words.len() {
         words[i] = at(places, wrapping_add_usize(place, i));
-        i += 1;
     }
 }
 
 pub(crate) fn keep(words: &[u32], place: usize, places: &mut [u32]) {
-    let mut i = 0;
-    while i < words.len() {
+    for i in 0..words.len() {
         set(places, wrapping_add_usize(place, i), words[i]);
-        i += 1;
     }
 }

@@ -1,11 +1,13 @@
 // An instruction value as text: its mnemonic, and its operands in the order of the syntax.
 use crate::names::{MNEMONICS, put_name};
 use show::{put, put_number};
+use std::io;
+use std::io::Write;
 use std::num::wrapping_add_u8;
 use words::{Arithmetic, Comparison, Instruction, LoadKind, Shift, StoreKind};
 
 // The number of a mnemonic, its place in `MNEMONICS`, how many operands it has, and these.
-#[derive(Drop)]
+#[derive(Clone, Copy)]
 pub struct Told {
     pub number: u8,
     pub count: u8,
@@ -14,18 +16,19 @@ pub struct Told {
     pub c: i32,
 }
 
-pub(crate) fn put_instruction(instruction: Instruction) {
+pub(crate) fn put_instruction<W: Write>(out: &mut W, instruction: Instruction) -> io::Result<()> {
     let told = told_of(instruction);
-    put_name(&MNEMONICS, told.number as u32);
+    put_name(out, &MNEMONICS, told.number as u32)?;
     if told.count > 0 {
-        put_whole(told.a);
+        put_whole(out, told.a)?;
     }
     if told.count > 1 {
-        put_whole(told.b);
+        put_whole(out, told.b)?;
     }
     if told.count > 2 {
-        put_whole(told.c);
+        put_whole(out, told.c)?;
     }
+    Ok(())
 }
 
 fn told_of(instruction: Instruction) -> Told {
@@ -152,12 +155,12 @@ fn store(member: StoreKind) -> u8 {
 }
 
 // With a sign where it is below 0.
-fn put_whole(n: i32) {
-    put(b" ");
+fn put_whole<W: Write>(out: &mut W, n: i32) -> io::Result<()> {
+    put(out, b" ")?;
     if n < 0 {
-        put(b"-");
+        put(out, b"-")?;
     }
-    put_number(magnitude(n));
+    put_number(out, magnitude(n))
 }
 
 // Without its sign. One is added last, for the sake of the least number, whose negation no i32 holds.

@@ -1,22 +1,25 @@
 // Reads one card from standard input and writes its verdict line and, where its violation has an explanation, the second line:
 // where the bad address came from. What is said of the card, and in which words, is judge's.
-use judge::{because, explain, judge, line};
-use libc::{STDIN_FILENO, STDOUT_FILENO};
-use show::ROOM;
+#![tactic(auto)]
 
-fn main() {
+use judge::{because, explain, judge, line};
+use show::{ROOM, put, read_full};
+use std::io;
+use std::io::{Read, Write};
+
+fn main(rt: HostRuntime) -> io::Result<()> {
     let mut card = [0u8; ROOM];
-    answer(&mut card);
+    answer(&mut rt.stdin(), &mut rt.stdout(), &mut card)
 }
 
-fn answer(card: &mut [u8]) {
-    let n = io::read_full(STDIN_FILENO, card);
+fn answer<R: Read, W: Write>(input: &mut R, out: &mut W, card: &mut [u8]) -> io::Result<()> {
+    let n = read_full(input, card)?;
     let first = line(judge(&card[..n]));
     let len = first.len;
     let bytes = first.bytes;
-    io::write_all(STDOUT_FILENO, &bytes[..len]);
+    put(out, &bytes[..len])?;
     let second = because(explain(&card[..n]));
     let more = second.len;
     let rest = second.bytes;
-    io::write_all(STDOUT_FILENO, &rest[..more]);
+    put(out, &rest[..more])
 }

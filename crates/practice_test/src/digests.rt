@@ -3,6 +3,8 @@ use card::{Answer, load};
 use checker::Verdict;
 use machine::Machine;
 use show::{REGISTERS, lower, put, put_word, upper};
+use std::io;
+use std::io::Write;
 use std::num::wrapping_add_u64;
 use vamp::Ran;
 
@@ -14,7 +16,7 @@ const PRIME_HIGH: u32 = 40;
 const PRIME_LOW: u64 = 435;
 
 // Nothing for a card that is refused.
-pub(crate) fn put_digests(card: &[u8]) {
+pub(crate) fn put_digests<W: Write>(out: &mut W, card: &[u8]) -> io::Result<()> {
     let mut code = [0u32; Machine::WORDS];
     let mut words = [0u32; Machine::WORDS];
     let mut memory = [0u64; Machine::DOUBLE_WORDS];
@@ -22,16 +24,17 @@ pub(crate) fn put_digests(card: &[u8]) {
     let answer = loaded.answer;
     let machine = loaded.machine;
     if let Answer::Loaded = answer {
-        put(b" asm ");
-        put_double(checker_digest(machine, &code, &mut words));
-        put(b" vamp ");
-        put_double(vamp_digest(machine, &mut memory));
+        put(out, b" asm ")?;
+        put_double(out, checker_digest(machine, &code, &mut words))?;
+        put(out, b" vamp ")?;
+        put_double(out, vamp_digest(machine, &mut memory))?;
     }
+    Ok(())
 }
 
-fn put_double(double: u64) {
-    put_word(upper(double));
-    put_word(lower(double));
+fn put_double<W: Write>(out: &mut W, double: u64) -> io::Result<()> {
+    put_word(out, upper(double))?;
+    put_word(out, lower(double))
 }
 
 // The steps taken, the answer, the registers, the code and the data.
@@ -80,22 +83,16 @@ fn with_registers(digest: u64, machine: Machine) -> u64 {
 // The first `count` words.
 fn with_words(digest: u64, words: &[u32], count: usize) -> u64 {
     let mut sum = digest;
-    let mut i = 0;
-    while i < words.len() {
-        if i < count {
-            sum = with_word(sum, words[i]);
-        }
-        i += 1;
+    for word in words.iter().take(count) {
+        sum = with_word(sum, *word);
     }
     sum
 }
 
 fn with_doubles(digest: u64, doubles: &[u64]) -> u64 {
     let mut sum = digest;
-    let mut i = 0;
-    while i < doubles.len() {
-        sum = with_double(sum, doubles[i]);
-        i += 1;
+    for double in doubles {
+        sum = with_double(sum, *double);
     }
     sum
 }

@@ -2,83 +2,88 @@
 // digests of what each machine left; and where there is an explanation, a blank and its text. A bundle has for each card its
 // length in four bytes, the lowest first, and its bytes. `sim/simulate bundle` writes the same lines; sim/README.md says what
 // a digest is of.
+#![tactic(auto)]
+
 mod digests;
 
 use digests::put_digests;
 use judge::{explain, judge};
-use libc::STDIN_FILENO;
-use show::{ROOM, put, put_because, put_ruling, word};
+use show::{ROOM, put, put_because, put_ruling, read_full, word};
+use std::io;
+use std::io::{Read, Write};
 
 // A count that no bundle reaches: the loop ends with its input.
-const CARDS: u64 = 0xFFFFFFFFFFFFFFFF;
+const CARDS: u64 = u64::MAX;
 
-fn main() {
+fn main(rt: HostRuntime) -> io::Result<()> {
     let mut card = [0u8; ROOM];
-    all(&mut card);
+    all(&mut rt.stdin(), &mut rt.stdout(), &mut card)
 }
 
-fn all(card: &mut [u8]) {
-    let mut left = CARDS;
-    while left > 0 {
-        if !one(card) {
-            return;
+fn all<R: Read, W: Write>(input: &mut R, out: &mut W, card: &mut [u8]) -> io::Result<()> {
+    for _ in 0..CARDS {
+        if !one(input, out, card)? {
+            break;
         }
-        left -= 1;
     }
+    Ok(())
 }
 
 // Whether there was a card.
-fn one(card: &mut [u8]) -> bool {
+fn one<R: Read, W: Write>(input: &mut R, out: &mut W, card: &mut [u8]) -> io::Result<bool> {
     let mut length = [0u8; 4];
-    let got = io::read_full(STDIN_FILENO, &mut length);
+    let got = read_full(input, &mut length)?;
     if got == 0 {
-        return false;
+        return Ok(false);
     }
     if got < 4 {
-        return cut();
+        return cut(out);
     }
     let n = word(length[0], length[1], length[2], length[3]) as usize;
     if n < card.len() {
-        return answer(&mut card[0..n], 0);
+        return answer(input, out, &mut card[0..n], 0);
     }
     let past = n - card.len();
-    answer(card, past)
+    answer(input, out, card, past)
 }
 
 // A bundle that ends inside a card has to show in the output; nothing follows it.
-fn cut() -> bool {
-    put(b"the bundle ends inside a card\n");
-    false
+fn cut<W: Write>(out: &mut W) -> io::Result<bool> {
+    put(out, b"the bundle ends inside a card\n")?;
+    Ok(false)
 }
 
 // Reads and answers a card that has so many bytes past the room; whether they were all there.
-fn answer(card: &mut [u8], past: usize) -> bool {
-    if io::read_full(STDIN_FILENO, card) < card.len() {
-        return cut();
+fn answer<R: Read, W: Write>(
+    input: &mut R,
+    out: &mut W,
+    card: &mut [u8],
+    past: usize,
+) -> io::Result<bool> {
+    if read_full(input, card)? < card.len() {
+        return cut(out);
     }
-    if !skip(past) {
-        return cut();
+    if !skip(input, past)? {
+        return cut(out);
     }
-    put_ruling(judge(card));
-    put_digests(card);
-    put_because(explain(card));
-    put(b"\n");
-    true
+    put_ruling(out, judge(card))?;
+    put_digests(out, card)?;
+    put_because(out, explain(card))?;
+    put(out, b"\n")?;
+    Ok(true)
 }
 
 // Reads so many bytes; whether there were as many.
-fn skip(past: usize) -> bool {
-    let mut left = past;
-    while left > 0 {
-        if !skip_byte() {
-            return false;
+fn skip<R: Read>(input: &mut R, past: usize) -> io::Result<bool> {
+    for _ in 0..past {
+        if !skip_byte(input)? {
+            return Ok(false);
         }
-        left -= 1;
     }
-    true
+    Ok(true)
 }
 
-fn skip_byte() -> bool {
+fn skip_byte<R: Read>(input: &mut R) -> io::Result<bool> {
     let mut byte = [0u8; 1];
-    io::read_full(STDIN_FILENO, &mut byte) == 1
+    Ok(read_full(input, &mut byte)? == 1)
 }

@@ -1,10 +1,16 @@
-// What the programs share: text and numbers on standard output, the room for a card, the word of four bytes and the two words of
-// a double word.
-ghost use Rattle.std.specs.Prelude.{◌≡◌, ◌+◌, ◌*◌, ◌/◌, ◌%◌, ◌^◌};
+// What the programs share: a card from standard input, text and numbers on standard output, the room for a card, the word of four
+// bytes and the two words of a double word.
+#![tactic(auto)]
+
+ghost use Rattle.std.specs.Prelude.{◌≡◌, ◌+◌, ◌*◌, ◌/◌, ◌%◌, ◌^◌, OnOk};
+ghost use Rattle.std.specs.Fmt.{decimal};
+ghost use Rattle.std.specs.Io.{ReadsAtMost};
+ghost use Rattle.std.specs.Io.KnownBytes.{Appends};
 
 use checker::Explanation;
 use judge::{Ruling, because, hex, line};
-use libc::STDOUT_FILENO;
+use std::io;
+use std::io::{Read, Write};
 
 // Room for a card: one byte more than the longest that loads. What a longer card has past it cannot change the answer:
 // proofs/Longer.antt of judge.
@@ -16,42 +22,63 @@ pub const REGISTERS: usize = 32;
 // What the upper word of a double word is worth: 2^32.
 const UPPER: u64 = 4294967296;
 
-pub fn put(text: &[u8]) {
-    io::write_all(STDOUT_FILENO, text);
+// Reads until the buffer is full or the input ends; how many bytes came.
+pub fn read_full<R: Read>(input: &mut R, buffer: &mut [u8]) -> io::Result<usize>
+    ensures { ReadsAtMost result buffer.new }
+{
+    let mut done = 0;
+    while done < buffer.len() {
+        let n = input.read(&mut buffer[done..])?;
+        if n == 0 {
+            break;
+        }
+        done += n;
+    }
+    Ok(done)
+}
+
+pub fn put<W: Write>(out: &mut W, text: &[u8]) -> io::Result<()>
+    ensures { OnOk result (Appends (W.contents out.old) (W.contents out.new) text.now) }
+{
+    out.write_all(text)
 }
 
 // In decimal.
-pub fn put_number(n: u64) {
-    io::print_decimal(STDOUT_FILENO, n);
+pub fn put_number<W: Write>(out: &mut W, n: u64) -> io::Result<()>
+    ensures { OnOk result (Appends (W.contents out.old) (W.contents out.new) (decimal n)) }
+{
+    write!(out, "{n}")
 }
 
 // Eight capital hex digits.
-pub fn put_word(word: u32) {
+pub fn put_word<W: Write>(out: &mut W, word: u32) -> io::Result<()> {
     let digits = hex(word);
-    put(&digits);
+    put(out, &digits)
 }
 
 // The verdict line of a ruling, without its end.
-pub fn put_ruling(ruling: Ruling) {
+pub fn put_ruling<W: Write>(out: &mut W, ruling: Ruling) -> io::Result<()> {
     let written = line(ruling);
     let len = written.len;
     let bytes = written.bytes;
     if len > 0 {
         let end = len - 1;
-        put(&bytes[..end]);
+        put(out, &bytes[..end])?;
     }
+    Ok(())
 }
 
 // A blank and the second line, that of an explanation, without its end; nothing where there is none.
-pub fn put_because(explanation: Explanation) {
+pub fn put_because<W: Write>(out: &mut W, explanation: Explanation) -> io::Result<()> {
     let written = because(explanation);
     let len = written.len;
     let bytes = written.bytes;
     if len > 0 {
         let end = len - 1;
-        put(b" ");
-        put(&bytes[..end]);
+        put(out, b" ")?;
+        put(out, &bytes[..end])?;
     }
+    Ok(())
 }
 
 // The word of four bytes, the lowest first.

@@ -1,17 +1,23 @@
 // Runs the run card on standard input on the VAMP machine and prints the steps taken, for tools/cost to count what a step
 // costs. All that the machine works on comes from the card, so that the compiler knows none of it.
-use libc::{STDIN_FILENO, STDOUT_FILENO};
-use machine::Machine;
+#![tactic(auto)]
 
-fn main() {
-    let mut bytes = io::buffer();
-    let n = io::read_full(STDIN_FILENO, &mut bytes);
+use machine::Machine;
+use show::read_full;
+use std::io;
+
+// Room for the card: more than that of tools/cost takes.
+const ROOM: usize = 4096;
+
+fn main(rt: HostRuntime) -> io::Result<()> {
+    let mut bytes = [0u8; ROOM];
+    let n = read_full(&mut rt.stdin(), &mut bytes)?;
     let mut code = [0u32; Machine::WORDS];
     let mut words = [0u32; Machine::WORDS];
     let mut memory = [0u64; Machine::DOUBLE_WORDS];
     let loaded = card::load(&bytes[..n], &mut code, &mut words, &mut memory);
     let machine = loaded.machine;
     let ran = vamp::run(machine, &mut memory, machine.limit);
-    io::print_decimal(STDOUT_FILENO, ran.steps as u64);
-    io::write_all(STDOUT_FILENO, b"\n");
+    let steps = ran.steps;
+    println!(rt; "{steps}")
 }

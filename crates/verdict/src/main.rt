@@ -1,17 +1,20 @@
 // Reads one card from standard input and writes its verdict line. What is said of the card, and in which words, is judge's.
-use judge::{judge, line};
-use libc::{STDIN_FILENO, STDOUT_FILENO};
-use show::ROOM;
+#![tactic(auto)]
 
-fn main() {
+use judge::{judge, line};
+use show::{ROOM, put, read_full};
+use std::io;
+use std::io::{Read, Write};
+
+fn main(rt: HostRuntime) -> io::Result<()> {
     let mut card = [0u8; ROOM];
-    answer(&mut card);
+    answer(&mut rt.stdin(), &mut rt.stdout(), &mut card)
 }
 
-fn answer(card: &mut [u8]) {
-    let n = io::read_full(STDIN_FILENO, card);
+fn answer<R: Read, W: Write>(input: &mut R, out: &mut W, card: &mut [u8]) -> io::Result<()> {
+    let n = read_full(input, card)?;
     let written = line(judge(&card[..n]));
     let len = written.len;
     let bytes = written.bytes;
-    io::write_all(STDOUT_FILENO, &bytes[..len]);
+    put(out, &bytes[..len])
 }
