@@ -2,26 +2,41 @@
  * Nivoplet reference simulator: see explain.h.
  */
 #include "explain.h"
-#include "isa.h"
 
 #include <inttypes.h>
 #include <stdio.h>
 
-/* RS1 of a load, a store, a branch or jr: the first register that it reads. */
-static unsigned first_read(uint32_t word)
-{
-    return touches_of(word).read[0];
-}
+static unsigned bits_25_21(uint32_t word) { return word >> 21 & 31; }  /* RS1 of I and R */
+static unsigned bits_20_16(uint32_t word) { return word >> 16 & 31; }  /* RD of I */
+static unsigned bits_15_11(uint32_t word) { return word >> 11 & 31; }  /* RD of R */
 
 /* ---- the log ------------------------------------------------------------- */
+
+/* The general register that a step with this word writes; 0 for none. */
+static unsigned written_by(uint32_t word)
+{
+    switch (instruction_number(word)) {
+    case OP_LW:
+    case OP_ADDI: case OP_LHGI: case OP_ANDI: case OP_ORI: case OP_XORI:
+        return bits_20_16(word);
+    case FN_MOVS2I:
+    case FN_ADD: case FN_SUB: case FN_SLLI: case FN_SRLI:
+    case FN_SNE: case FN_SGR: case FN_SGE:
+        return bits_15_11(word);
+    case OP_JAL:
+        return LINK_REGISTER;
+    default:                    /* sw, movi2s, beqz, bnez, jr */
+        return 0;
+    }
+}
 
 /* Whether the step was a taken transfer. A branch writes no register, so those after it decide as well. */
 static int transferred_by(uint32_t word, const uint32_t gpr[REGISTERS])
 {
     switch (instruction_number(word)) {
     case OP_JAL: case OP_JR: return 1;
-    case OP_BEQZ: return gpr[first_read(word)] == 0;
-    case OP_BNEZ: return gpr[first_read(word)] != 0;
+    case OP_BEQZ: return gpr[bits_25_21(word)] == 0;
+    case OP_BNEZ: return gpr[bits_25_21(word)] != 0;
     default: return 0;
     }
 }
@@ -32,7 +47,7 @@ static void log_step(struct step_log *log, uint32_t dpc, const struct checker *m
     struct logged *entry = &log->steps[log->count];
     entry->dpc = dpc;
     entry->word = get_word(machine->card.code + (dpc - machine->card.code_start));
-    entry->written = (uint8_t)touches_of(entry->word).written;
+    entry->written = (uint8_t)written_by(entry->word);
     entry->transferred = (uint8_t)transferred_by(entry->word, machine->regs.gpr);
     log->count++;
 }
@@ -74,7 +89,7 @@ static struct origin origin_before(uint32_t k, unsigned reg, const struct step_l
 /* 25 and 26 at step k, of this word. */
 static struct because explain_access(uint32_t k, uint32_t word, const struct step_log *log)
 {
-    struct because because = {BECAUSE_REGISTER, 0, first_read(word), {FROM_CARD, 0}};
+    struct because because = {BECAUSE_REGISTER, 0, bits_25_21(word), {FROM_CARD, 0}};
     because.origin = origin_before(k, because.reg, log);
     return because;
 }
@@ -93,7 +108,7 @@ static struct because explain_fetch(uint32_t k, const struct step_log *log)
         because.kind = BECAUSE_TRANSFER;
     } else {
         because.kind = BECAUSE_JR;
-        because.reg = first_read(word);
+        because.reg = bits_25_21(word);
         because.origin = origin_before(because.step, because.reg, log);
     }
     return because;
