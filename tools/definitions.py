@@ -19,11 +19,11 @@ SEVEN, BECAUSE = "crates/checker/specs/Seven.antt", "crates/judge/specs/Because.
 AGREEMENT = "crates/agreement/specs"
 
 # The names in them that are asked for.
-FORM, READING_ANSWER, MADE_ANSWER = "form", "readingAnswer", "madeAnswer"
-RECORD_OF, ANSWERED, TEXT_OF, BECAUSE_TEXT = "recordOf", "answered", "textOf", "becauseText"
+FORM, READING_ANSWER, MADE_ANSWER = "form", "reading_answer", "made_answer"
+RECORD_OF, ANSWERED, TEXT_OF, BECAUSE_TEXT = "record_of_lem", "answered", "text_of", "because_text"
 LED, ADDRESSED = "led", "addressed"
 INTERRUPT, REFUSED = "interrupt", "refused"
-LONGEST, MEMORY, DOUBLE_WORDS, MOST_STEPS, BODY = "LONGEST", "MEMORY", "DOUBLE-WORDS", "MOST-STEPS", "BODY"
+LONGEST, MEMORY, DOUBLE_WORDS, MOST_STEPS, BODY = "LONGEST", "MEMORY", "DOUBLE_WORDS", "MOST_STEPS", "BODY"
 
 
 class Lost(Exception):
@@ -65,6 +65,11 @@ def pairs(text):
             if len(inside) == 2:
                 found.append(tuple(inside))
     return found
+
+
+def compared(text, what):
+    """What an expression's group holds, and the number that a text compares it with: `eqb x 5` or `x == 5`."""
+    return [(a or c, int(b or d)) for a, b, c, d in re.findall(rf"\beqb {what} (\d+)|{what} == (\d+)", text)]
 
 
 class Specs:
@@ -128,7 +133,7 @@ class Definitions:
         found = {}
         for left, right in words.of(FORM):
             variant, *arguments = re.sub(r"[()]", " ", left).split()[1:]
-            shape = re.match(r"form([RIJ])\s", right)
+            shape = re.match(r"form_([rij])\s", right)
             if not shape:
                 raise Lost(f"{WORDS}: {FORM} {variant} is no form")
             used = re.findall(r"\(used (\w+)\)|\b(unused)\b", right)
@@ -147,7 +152,7 @@ class Definitions:
                         name = re.sub(r"^(add|sub)oi$", r"\1io", name + "i")
                     members.append((name, int(value, 16)))
             for name, value in members:
-                found[name] = (shape[1], value, [f for f in order if f in fields])
+                found[name] = (shape[1].upper(), value, [f for f in order if f in fields])
         return found
 
     def lowest_bits(self):
@@ -242,7 +247,7 @@ class Definitions:
         """The numbers from 2 on in a test of an event, and in its own definition where that is in the same file."""
         numbers = set()
         for text in [test] + [right for name, _, right in self[EVENTS].clauses if name in re.findall(r"\w+", test)]:
-            for token in re.findall(r"[\w\-]+", re.sub(r"SR / 2 \^ (\d+) % 2", r"\1", text)):
+            for token in re.findall(r"\w+", re.sub(r"SR / 2 \^ (\d+) % 2", r"\1", text)):
                 numbers.add(int(token) if token.isdigit() else self.constants.get(token, 0))
         return {n for n in numbers if n >= 2}
 
@@ -272,7 +277,7 @@ class Definitions:
         if not found:
             raise Lost(f"no test {test}")
         numbers = set()
-        for token in re.findall(r"[\w\-·]+", found[1]):
+        for token in re.findall(r"\w+", found[1]):
             if token.isdigit():
                 numbers.add(int(token))
             elif token in self.constants:
@@ -295,12 +300,12 @@ class Definitions:
     def mark(self, test):
         """The letters that a test compares the bytes of a card with, or none."""
         found = self.look(test.split()[0], CARD)
-        compared = re.findall(r"\(getD card (\d+) 0\) (\d+)", found[1] if found else "")
-        return "".join(chr(int(value)) for _, value in sorted(compared) if value != "0")
+        places = compared(found[1] if found else "", r"\(?\b(?:get_or|slice_index) card (\d+)(?: 0)?\)?")
+        return "".join(chr(value) for _, value in sorted((int(at), value) for at, value in places) if value)
 
     def wordless(self):
         """The violations whose line has no word."""
-        return {int(n) for _, _, right in self[LINE].clauses for n in re.findall(r"eqb v (\d+)", right)}
+        return {number for _, _, right in self[LINE].clauses for _, number in compared(right, r"\b(v)")}
 
     def lines(self):
         """The pieces of text of each verdict line, by the number of its values, and how each value is written."""
@@ -309,7 +314,7 @@ class Definitions:
         for _, right in line.of(TEXT_OF):
             text = line.one(right.split()[0])
             pieces, kinds = [], []
-            for piece in re.findall(r"\(((?:\d+ ∷ )+)\[\]\)|\b(decimal|hex|wordText)\b", text):
+            for piece in re.findall(r"\(((?:\d+ ∷ )+)\[\]\)|\b(decimal|hex|word_text)\b", text):
                 if piece[0]:
                     pieces.append("".join(chr(int(n)) for n in piece[0].split("∷")[:-1]))
                 else:
@@ -322,7 +327,7 @@ class Definitions:
     def explained(self):
         """The violations of an explanation: of DPC, and of a register."""
         found = {name: {int(n) for n in numbers.split("∷")[:-1]}
-                 for numbers, name in re.findall(r"one-of v \(((?:\d+ ∷ )+)\[\]\), (\w+) k\)", text_of(SEVEN))}
+                 for numbers, name in re.findall(r"one_of v \(((?:\d+ ∷ )+)\[\]\), (\w+) k\)", text_of(SEVEN))}
         if set(found) != {LED, ADDRESSED}:
             raise Lost(f"{SEVEN}: no table of violations")
         return found[LED], found[ADDRESSED]
@@ -334,7 +339,7 @@ class Definitions:
     def texts(self, expression):
         """The texts that an expression can stand for; a name with several clauses is any of them."""
         found = {""}
-        for letters, name in re.findall(r"((?:\d+ ∷ )+)\[\]|\b([A-Za-z]+)\b", expression):
+        for letters, name in re.findall(r"((?:\d+ ∷ )+)\[\]|\b([A-Za-z_]+)\b", expression):
             if letters:
                 more = {"".join(chr(int(n)) for n in letters.split("∷")[:-1])}
             elif name in ("decimal", "hex"):

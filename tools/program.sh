@@ -57,7 +57,7 @@ arguments() {
 # A program looks at no more: one byte beyond the longest card that loads.
 longest=8485
 
-# The card is read here, since a program takes a read that fails for the end of its input. The copy loses its name before it is
+# The card is read here, so that what is said of a read that fails has the card's name. The copy loses its name before it is
 # filled, so that nothing is left behind whatever ends the script.
 take_card() { # CARD
     named=$1
@@ -78,15 +78,8 @@ take_card() { # CARD
 
 find_kit() {
     rt=$(command -v rt) || fail "rt of the Rattle kit is not on the PATH"
-    home=${RATTLE_HOME:-}
-    [ -n "$home" ] || { home=$(readlink -f -- "$rt") && home=${home%/*/*}; }
+    rt=$(readlink -f -- "$rt") && home=${rt%/*/*}
     { read -r identity <"$home/KIT-ID"; } 2>/dev/null || fail "the kit at $home has no KIT-ID"
-    tools=$home/on/$(uname -m)/toolchain
-    loader=$tools/lib/ld-linux-x86-64.so.2
-    [ -f "$loader" ] || fail "the kit at $home has no toolchain for this machine"
-    # Programs are for x86-64; on another processor the kit has an emulator.
-    emulator=$tools/bin/qemu-x86_64
-    [ -x "$emulator" ] || emulator=
 }
 
 # The folders of the crates that a program is made of, by crates.txt.
@@ -103,13 +96,13 @@ crates_of() { # PROGRAM
         END { visit(wanted) }' "$top/crates.txt"
 }
 
-# Each program as NAME.SUM. The sum is of all that the program is built from, by content: the files of its crates, crates.txt
-# and the kit's identity.
+# Each program as NAME.SUM. The sum is of all that the program is built from, by content: the files of its crates but those that
+# rt makes, crates.txt and the kit's identity.
 marked() { # PROGRAM..
     for name; do
         folders=$(crates_of "$name") && [ -n "$folders" ] || fail "crates.txt lists no crate $name"
         # shellcheck disable=SC2086
-        sums=$(cd "$top" && find -L crates.txt $folders -type f -exec sha256sum {} +) || fail "a source of $name cannot be read"
+        sums=$(cd "$top" && find -L crates.txt $folders -type d -name out -prune -o -type f -exec sha256sum {} +) || fail "a source of $name cannot be read"
         sum=$(printf '%s\n' "$identity" "$sums" | LC_ALL=C sort | sha256sum) || fail "no sum of the sources of $name"
         echo "$name.${sum%% *}"
     done
@@ -123,16 +116,16 @@ kept=$top/target/ready
 ready() { # PROGRAM
     find_kit
     program=$kept/$(marked "$1") || exit 3
-    [ -r "$program" ] || build "$1"
+    [ -x "$program" ] || build "$1"
 }
 
 # Builds, unless another call has done so meanwhile. Sources that changed meanwhile are built again.
 build() { # PROGRAM
-    lock
+    lock "$1"
     tries=3
     while :; do
         program=$kept/$(marked "$1") || exit 3
-        [ ! -r "$program" ] || break
+        [ ! -x "$program" ] || break
         [ "$tries" -gt 0 ] || fail "the sources change while they are built"
         tries=$((tries - 1))
         build_with "$1"
@@ -142,17 +135,18 @@ build() { # PROGRAM
 
 # One build at a time. The lock is the kernel's and ends with its last holder: a build that was killed leaves none, and an rt
 # that outlives it is waited for.
-lock() {
-    writable || fail "a program is to be built, and $top/target cannot be written"
+lock() { # PROGRAM
+    writable "$1" || fail "a program is to be built, and $top/target or a crate's out cannot be written"
     command -v flock >/dev/null || fail "a program is to be built, and there is no flock on the PATH"
     exec 9>>"$kept/lock"
     flock -n 9 || { say "waiting for another build" && flock 9; } || fail "no lock on $kept/lock"
 }
 
-writable() {
-    mkdir -p "$kept" 2>/dev/null || return
-    for folder in "$top/target" "$top/target"/*/; do
-        [ -w "$folder" ] || return
+# rt keeps its work in the folders `out` of the crates.
+writable() { # PROGRAM
+    mkdir -p "$kept" 2>/dev/null && [ -w "$kept" ] || return
+    for folder in $(crates_of "$1"); do
+        mkdir -p "$top/$folder/out" 2>/dev/null && [ -w "$top/$folder/out" ] || return
     done
     true 2>/dev/null 3>>"$kept/lock"
 }
@@ -172,36 +166,38 @@ build_with() { # PROGRAM
     names=$(together "$1")
     # shellcheck disable=SC2086
     before=$(marked $names) || exit 3
-    for name in $names; do
-        # rt counts a program as proved though its file is gone.
-        [ -f "$top/target/bin/$name" ] || rm -f "$top/target/stamp/$name"
-    done
     say "proving and building; the first time this takes minutes"
-    # shellcheck disable=SC2086
-    prove $names || {
-        grep -v '^fn .*: proved$' "$kept/log" >&2
-        fail "the program could not be built; $kept/log has all that rt said"
-    }
+    : >"$kept/log"
+    for name in $names; do
+        prove "$name" || {
+            grep -Ev '^(rt: chose|so far:|checked |statements |library |logic |(fn|struct|enum|impl|trait) .*: proved$)' "$kept/log" >&2
+            fail "the program could not be built; $kept/log has all that rt said"
+        }
+    done
     # shellcheck disable=SC2086
     [ "$(marked $names)" = "$before" ] || { say "a source changed meanwhile" && return; }
     for mark in $before; do
-        cp "$top/target/bin/${mark%.*}" "$kept/new" && mv "$kept/new" "$kept/$mark" || fail "$kept/$mark could not be written"
+        cp "$top/crates/${mark%.*}/out/${mark%.*}" "$kept/new" && mv "$kept/new" "$kept/$mark" || fail "$kept/$mark could not be written"
     done
 }
 
-# Has rt prove and build; its lines go to a log, and those that tell of a crate proved to standard error too.
-prove() { # PROGRAM..
-    ended=$({ { (cd "$top" && exec rt check "$@") </dev/null 2>&1 3>&-; echo $? >&3; } | progress; } 3>&1)
+# Has rt prove and build, and run the program once, on nothing; rt's lines go to a log, and of each crate that it proved a line
+# to standard error too.
+prove() { # PROGRAM
+    ended=$({ { (cd "$top/crates/$1" && exec rt run) </dev/null 2>&1 3>&-; echo $? >&3; } | progress; } 3>&1)
     [ "$ended" = 0 ]
 }
 
 progress() {
     while IFS= read -r line; do
         printf '%s\n' "$line"
-        case $line in "rt: "*" proved ("*) say "${line#rt: }" ;; esac
-    done >"$kept/log"
+        case $line in
+        "crate "*": "*) proved=${line#crate } && proved=${proved%%:*} ;;
+        logic=proved*) say "$proved proved" ;;
+        esac
+    done >>"$kept/log"
 }
 
 run() {
-    ${emulator:+"$emulator"} "$loader" --library-path "$tools/lib" "$program"
+    "$program"
 }
