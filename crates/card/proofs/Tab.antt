@@ -75,7 +75,3 @@ filling_all f {d₀} {d} {i} n p k l =
     let w : i ≤ length d₀ = p.within in
     let e : i ≡ n = omega arith in
     p.filled ∙ ap (λ (t : List ℕ). tab f i ++ t) (drop_of_length-le d₀ {i = i} (omega arith)) ∙ append-nil (tab f i) ∙ ap (tab f) e
-  where
-    append-nil : (xs : List ℕ) → xs ++ [] ≡ xs
-    append-nil [] = refl
-    append-nil (x ∷ xs) = ap (λ (t : List ℕ). x ∷ t) (append-nil xs)

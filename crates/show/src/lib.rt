@@ -2,13 +2,16 @@
 // bytes and the two words of a double word.
 #![tactic(auto)]
 
-ghost use Rattle.std.specs.Prelude.{◌≡◌, ◌+◌, ◌*◌, ◌/◌, ◌%◌, ◌^◌, OnOk};
+ghost use Rattle.std.specs.Prelude.{◌≡◌, ◌+◌, ◌*◌, ◌/◌, ◌%◌, ◌^◌, ◌<◌, ◌≤◌, length, take, OnOk, IfOk};
 ghost use Rattle.std.specs.Fmt.{decimal};
 ghost use Rattle.std.specs.Io.{ReadsAtMost};
-ghost use Rattle.std.specs.Io.KnownBytes.{Appends};
+ghost use Rattle.std.specs.Io.KnownBytes.{Appends, Consumes, IsAtEnd};
+ghost use Rattle.judge.specs.Line.{line_of, text_of, hex as hex_lem};
+ghost use Rattle.judge.specs.Because.{because_text};
+ghost use Rattle.show.specs.Texts.{unended, behind_blank};
 
 use checker::Explanation;
-use judge::{Ruling, because, hex, line};
+use judge::{Line, Ruling, because, hex, line};
 use std::io;
 use std::io::{Read, Write};
 
@@ -24,13 +27,15 @@ const UPPER: u64 = 4294967296;
 
 // Reads until the buffer is full or the input ends; how many bytes came.
 pub fn read_full<R: Read>(input: &mut R, buffer: &mut [u8]) -> io::Result<usize>
-    ensures { ReadsAtMost result buffer.new }
+    ensures bound { ReadsAtMost result buffer.new }
+    ensures bytes { IfOk result (λ n. Consumes (R.remaining input.old) (R.remaining input.new) (take n buffer.new)) }
+    ensures end { IfOk result (λ n. n < length buffer.new → IsAtEnd (R.remaining input.new)) }
 {
     let mut done = 0;
     while done < buffer.len() {
         let n = input.read(&mut buffer[done..])?;
         if n == 0 {
-            break;
+            return Ok(done);
         }
         done += n;
     }
@@ -51,34 +56,44 @@ pub fn put_number<W: Write>(out: &mut W, n: u64) -> io::Result<()>
 }
 
 // Eight capital hex digits.
-pub fn put_word<W: Write>(out: &mut W, word: u32) -> io::Result<()> {
+pub fn put_word<W: Write>(out: &mut W, word: u32) -> io::Result<()>
+    ensures { OnOk result (Appends (W.contents out.old) (W.contents out.new) (hex_lem word)) }
+{
     let digits = hex(word);
     put(out, &digits)
 }
 
 // The verdict line of a ruling, without its end.
-pub fn put_ruling<W: Write>(out: &mut W, ruling: Ruling) -> io::Result<()> {
-    let written = line(ruling);
-    let len = written.len;
-    let bytes = written.bytes;
-    if len > 0 {
-        let end = len - 1;
-        put(out, &bytes[..end])?;
-    }
-    Ok(())
+pub fn put_ruling<W: Write>(out: &mut W, ruling: Ruling) -> io::Result<()>
+    ensures { OnOk result (Appends (W.contents out.old) (W.contents out.new) (unended (line_of (text_of ruling)))) }
+{
+    put_unended(out, line(ruling))
 }
 
 // A blank and the second line, that of an explanation, without its end; nothing where there is none.
-pub fn put_because<W: Write>(out: &mut W, explanation: Explanation) -> io::Result<()> {
+pub fn put_because<W: Write>(out: &mut W, explanation: Explanation) -> io::Result<()>
+    ensures { OnOk result (Appends (W.contents out.old) (W.contents out.new) (behind_blank (line_of (because_text explanation)))) }
+{
     let written = because(explanation);
+    if written.len == 0 {
+        return Ok(());
+    }
+    put(out, b" ")?;
+    put_unended(out, written)
+}
+
+// A line without its last byte.
+fn put_unended<W: Write>(out: &mut W, written: Line) -> io::Result<()>
+    requires { written.len ≤ length written.bytes }
+    ensures { OnOk result (Appends (W.contents out.old) (W.contents out.new) (unended written)) }
+{
     let len = written.len;
     let bytes = written.bytes;
-    if len > 0 {
-        let end = len - 1;
-        put(out, b" ")?;
-        put(out, &bytes[..end])?;
+    if len == 0 {
+        return Ok(());
     }
-    Ok(())
+    let end = len - 1;
+    put(out, &bytes[..end])
 }
 
 // The word of four bytes, the lowest first.
