@@ -6,14 +6,13 @@ use mathlib.Core.List.{List, [], ◌∷◌, map}
 use mathlib.Core.Option.{Option, some}
 use native.Mathlib.Nat.{zero-add}
 use native.Mathlib.Omega.{arith}
-use borrow.Author.Tests.{lt-ltb, ltb-true, ltb-false, eqb-true}
+use borrow.Author.Tests.{ltb-true, ltb-false, eqb-true}
 use lib.Dec.{ltb, eqb}
 use lib.IntN.{ℤ}
 use lib.Signed.{mag}
 use Rattle.words.specs.Fields.{pick, opcode, function, field, rs1, second, third, amount, signed, immediate16, immediate26}
 use Rattle.words.specs.Words.{Field, used, unused, Form, form_r, form_i, form_j, form, instructions, reading, among, numbered, making, laid, small, ranged, number, modulus, kept, cleared}
 use Rattle.words.specs.declared.Instruction.{Instruction}
-use Rattle.words.specs.declared.Instruction.TheVariants.{ShiftImmediate, ShiftRegister, Movs2i, Movi2s, ArithmeticRegister, Lhg, Clr, CompareRegister, Set, J, Jal, Trap, Rfe, Beqz, Bnez, ArithmeticImmediate, Lhgi, Jr, Jalr, Clri, CompareImmediate, Seti, Load, Store}
 use Rattle.words.proofs.Signed.{signed_low, signed_high, ranged_yes}
 use Rattle.words.proofs.Numbering.{filled, both}
 
@@ -29,42 +28,15 @@ refit (form_i n a d m) w = form_i n (at a (rs1 w)) (at d (second w)) (at m (imme
 refit (form_j n m) w = form_j n (at m (immediate26 w))
 
 filled_form : (i : Instruction) (w : ℕ) → form (filled i w) ≡ refit (form i) w
-filled_form = elim [
-  | ShiftImmediate s rd r1 sa ↦ λ w. refl
-  | ShiftRegister s rd r1 r2 ↦ λ w. refl
-  | Movs2i rd sa ↦ λ w. refl
-  | Movi2s sa r1 ↦ λ w. refl
-  | ArithmeticRegister a rd r1 r2 ↦ λ w. refl
-  | Lhg rd r1 ↦ λ w. refl
-  | Clr rd ↦ λ w. refl
-  | CompareRegister k rd r1 r2 ↦ λ w. refl
-  | Set rd ↦ λ w. refl
-  | J imm ↦ λ w. refl
-  | Jal imm ↦ λ w. refl
-  | Trap imm ↦ λ w. refl
-  | Rfe ↦ λ w. refl
-  | Beqz r1 imm ↦ λ w. refl
-  | Bnez r1 imm ↦ λ w. refl
-  | ArithmeticImmediate a rd r1 imm ↦ λ w. refl
-  | Lhgi rd imm ↦ λ w. refl
-  | Jr r1 ↦ λ w. refl
-  | Jalr r1 ↦ λ w. refl
-  | Clri rd ↦ λ w. refl
-  | CompareImmediate k rd r1 imm ↦ λ w. refl
-  | Seti rd ↦ λ w. refl
-  | Load k rd r1 imm ↦ λ w. refl
-  | Store k r1 imm rd ↦ λ w. refl
-]
+filled_form i w = grind arith
 
 -- A field of five bits is below 32, and a two's complement field is in its range and comes back
 at_small : (a : Field ℕ) (k w : ℕ) → small (at a (field k w)) ≡ true
 unfolding field
-at_small (used v) k w = lt-ltb (field k w) 32 (omega arith)
-at_small unused k w = refl
+at_small a k w = grind arith
 
 at_number : (a : Field ℕ) (x : ℕ) → number (at a x) ≡ kept a x
-at_number (used v) x = refl
-at_number unused x = refl
+at_number a x = grind arith
 
 -- What a field of the range means lies in the range, and modulo the range it is the field
 module _ (k x : ℕ) (b : x < 2 * suc k) where
@@ -108,7 +80,7 @@ Own w (i ∷ is) = (filled i w ≡ i) × Own w is
 
 found : (w : ℕ) (is : List Instruction) (i : Instruction) → Own w is → among (opcode w) (function w) is ≡ (0, some i)
     → (numbered (opcode w) (function w) (form i) ≡ true) × (filled i w ≡ i)
-found w [] i own e = let z : ◌≡◌ {A = ℕ} 23 0 = ap (λ (p : ℕ × Option Instruction). p.0) e in absurd (omega arith)
+found w [] i own e = grind arith
 found w (j ∷ is) i own e = by (numbered (opcode w) (function w) (form j)) refl (found w is i own.1) e
   where
     by : (t : Bool) → numbered (opcode w) (function w) (form j) ≡ t
@@ -123,32 +95,7 @@ found w (j ∷ is) i own e = by (numbered (opcode w) (function w) (form j)) refl
 
 -- Each of the 58 has the word's fields
 twice : (i : Instruction) (w : ℕ) → filled (filled i w) w ≡ filled i w
-twice = elim [
-  | ShiftImmediate s rd r1 sa ↦ λ w. refl
-  | ShiftRegister s rd r1 r2 ↦ λ w. refl
-  | Movs2i rd sa ↦ λ w. refl
-  | Movi2s sa r1 ↦ λ w. refl
-  | ArithmeticRegister a rd r1 r2 ↦ λ w. refl
-  | Lhg rd r1 ↦ λ w. refl
-  | Clr rd ↦ λ w. refl
-  | CompareRegister k rd r1 r2 ↦ λ w. refl
-  | Set rd ↦ λ w. refl
-  | J imm ↦ λ w. refl
-  | Jal imm ↦ λ w. refl
-  | Trap imm ↦ λ w. refl
-  | Rfe ↦ λ w. refl
-  | Beqz r1 imm ↦ λ w. refl
-  | Bnez r1 imm ↦ λ w. refl
-  | ArithmeticImmediate a rd r1 imm ↦ λ w. refl
-  | Lhgi rd imm ↦ λ w. refl
-  | Jr r1 ↦ λ w. refl
-  | Jalr r1 ↦ λ w. refl
-  | Clri rd ↦ λ w. refl
-  | CompareImmediate k rd r1 imm ↦ λ w. refl
-  | Seti rd ↦ λ w. refl
-  | Load k rd r1 imm ↦ λ w. refl
-  | Store k r1 imm rd ↦ λ w. refl
-]
+twice i w = grind arith
 
 all_own : (w : ℕ) (is : List Instruction) → Own w (map (λ i. filled i w) is)
 all_own w [] = tt

@@ -1,6 +1,7 @@
 -- Exactly 58 combinations of opcode and function are legal, and a word of any other answers 23.
 use Prim.Native.Nat.{ℕ, zero, suc, ◌+◌}
-use mathlib.Core.Path.{◌≡◌, refl, sym, ◌∙◌}
+use native.Mathlib.Omega.{arith}
+use mathlib.Core.Path.{◌≡◌, refl, ◌∙◌}
 use mathlib.Core.Bool.{Bool, true, false}
 use mathlib.Core.List.{List, [], ◌∷◌}
 use mathlib.Core.Option.{Option, none, some}
@@ -42,13 +43,8 @@ legal_among o f (j ∷ is) e = by (numbered o f (form j)) (legal_among o f is) e
     by false next e = next e
 
 illegal_among : (o f : ℕ) (is : List Instruction) → any o f is ≡ false → among o f is ≡ (23, none)
-illegal_among o f [] e = refl
-illegal_among o f (j ∷ is) e = by (numbered o f (form j)) (illegal_among o f is) e
-  where
-    by : (t : Bool) → (any o f is ≡ false → among o f is ≡ (23, none))
-        → pick t true (any o f is) ≡ false → pick {A = ℕ × Option Instruction} t (0, some j) (among o f is) ≡ (23, none)
-    by true next e = absurd (false_true (sym e))
-    by false next e = next e
+illegal_among o f [] e = grind arith
+illegal_among o f (j ∷ is) e = grind (arith, illegal_among o f is)
 
 -- The fields do not matter to it
 same_any : (o f w : ℕ) → any o f (instructions w) ≡ any o f (instructions 0)

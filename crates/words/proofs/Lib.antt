@@ -6,3 +6,4 @@ pub mod Back
 pub mod Legal
 pub mod Touched
 pub mod Unique
+pub mod Halves

@@ -1,19 +1,11 @@
--- Reading goes by the number: the number of an instruction leads to that instruction with the word's fields, and a number
--- that no instruction has leads to 23.
-use Prim.Native.Nat.{ℕ, ◌+◌, ◌-◌, ◌^◌, ◌≤◌, ◌<◌}
+-- Reading goes by the number: the number of an instruction leads to that instruction with the word's fields.
+use Prim.Native.Nat.{ℕ, ◌+◌}
 use native.Mathlib.Omega.{arith}
 use mathlib.Core.Path.{◌≡◌, refl, ap₂, subst, ◌∙◌}
 use mathlib.Core.Bool.{Bool, true, false, not, ◌&&◌}
-use mathlib.Core.List.{List, [], ◌∷◌}
-use mathlib.Core.Option.{Option, none, some}
-use borrow.Author.Tests.{eqb-true, ltb-true, ltb-false}
-use mathlib.Core.Logic.{◌⊎◌, inl, inr}
-use lib.Dec.{T, eqb, ltb}
-use Rattle.words.proofs.Range.{every, every_at}
-use Rattle.words.specs.Fields.{pick, opcode, function, rs1, second, third, amount, immediate16, immediate26}
-use Rattle.words.specs.Words.{Form, form_r, form_i, form_j, form, instructions, reading, among, numbered, shift_immediate_no, shift_register_no, arithmetic_register_no, arithmetic_immediate_no, compare_register_no, compare_immediate_no}
-use Rattle.words.specs.declared.Instruction.{Instruction}
-use Rattle.words.specs.declared.Instruction.TheVariants.{ShiftImmediate, ShiftRegister, Movs2i, Movi2s, ArithmeticRegister, Lhg, Clr, CompareRegister, Set, J, Jal, Trap, Rfe, Beqz, Bnez, ArithmeticImmediate, Lhgi, Jr, Jalr, Clri, CompareImmediate, Seti, Load, Store}
+use mathlib.Core.Option.{some}
+use lib.Dec.{T}
+use Rattle.words.specs.Fields.{opcode, function, rs1, second, third, amount, immediate16, immediate26}
 use Rattle.words.specs.declared.Shift.{Shift}
 use Rattle.words.specs.declared.Shift.TheVariants.{Sll, Sla, Srl, Sra}
 use Rattle.words.specs.declared.Arithmetic.{Arithmetic}
@@ -22,6 +14,9 @@ use Rattle.words.specs.declared.Comparison.{Comparison}
 use Rattle.words.specs.declared.Comparison.TheVariants.{Sgr, Seq, Sge, Sls, Sne, Sle}
 use Rattle.words.specs.declared.LoadKind.TheVariants.{Lb, Lh, Lw, Lbu, Lhu}
 use Rattle.words.specs.declared.StoreKind.TheVariants.{Sb, Sh, Sw}
+use Rattle.words.specs.Words.{shift_immediate_no, shift_register_no, arithmetic_immediate_no, arithmetic_register_no, compare_immediate_no, compare_register_no, Form, form_r, form_i, form_j, form, instructions, reading, among}
+use Rattle.words.specs.declared.Instruction.{Instruction}
+use Rattle.words.specs.declared.Instruction.TheVariants.{ShiftImmediate, ShiftRegister, Movs2i, Movi2s, ArithmeticRegister, Lhg, Clr, CompareRegister, Set, J, Jal, Trap, Rfe, Beqz, Bnez, ArithmeticImmediate, Lhgi, Jr, Jalr, Clri, CompareImmediate, Seti, Load, Store}
 
 -- The same instruction with the fields of w
 abbrev pub filled : Instruction → ℕ → Instruction
@@ -68,82 +63,28 @@ Chosen i w f = among (op (form i)) (fn (form i) f) (instructions w) ≡ (0, some
 chosen : (i : Instruction) (w f : ℕ) → Chosen i w f
 chosen (ShiftImmediate s rd r1 sa) w f = elim s as (λ s. Chosen (ShiftImmediate s rd r1 sa) w f) [ Sll ↦ refl | Sla ↦ refl | Srl ↦ refl | Sra ↦ refl ]
 chosen (ShiftRegister s rd r1 r2) w f = elim s as (λ s. Chosen (ShiftRegister s rd r1 r2) w f) [ Sll ↦ refl | Sla ↦ refl | Srl ↦ refl | Sra ↦ refl ]
-chosen (Movs2i rd sa) w f = refl
-chosen (Movi2s sa r1) w f = refl
 chosen (ArithmeticRegister a rd r1 r2) w f = elim a as (λ a. Chosen (ArithmeticRegister a rd r1 r2) w f) [ Addo ↦ refl | Add ↦ refl | Subo ↦ refl | Sub ↦ refl | And ↦ refl | Or ↦ refl | Xor ↦ refl ]
-chosen (Lhg rd r1) w f = refl
-chosen (Clr rd) w f = refl
 chosen (CompareRegister k rd r1 r2) w f = elim k as (λ k. Chosen (CompareRegister k rd r1 r2) w f) [ Sgr ↦ refl | Seq ↦ refl | Sge ↦ refl | Sls ↦ refl | Sne ↦ refl | Sle ↦ refl ]
-chosen (Set rd) w f = refl
-chosen (J imm) w f = refl
-chosen (Jal imm) w f = refl
-chosen (Trap imm) w f = refl
-chosen Rfe w f = refl
-chosen (Beqz r1 imm) w f = refl
-chosen (Bnez r1 imm) w f = refl
 chosen (ArithmeticImmediate a rd r1 imm) w f = elim a as (λ a. Chosen (ArithmeticImmediate a rd r1 imm) w f) [ Addo ↦ refl | Add ↦ refl | Subo ↦ refl | Sub ↦ refl | And ↦ refl | Or ↦ refl | Xor ↦ refl ]
-chosen (Lhgi rd imm) w f = refl
-chosen (Jr r1) w f = refl
-chosen (Jalr r1) w f = refl
-chosen (Clri rd) w f = refl
 chosen (CompareImmediate k rd r1 imm) w f = elim k as (λ k. Chosen (CompareImmediate k rd r1 imm) w f) [ Sgr ↦ refl | Seq ↦ refl | Sge ↦ refl | Sls ↦ refl | Sne ↦ refl | Sle ↦ refl ]
-chosen (Seti rd) w f = refl
 chosen (Load k rd r1 imm) w f = elim k as (λ k. Chosen (Load k rd r1 imm) w f) [ Lb ↦ refl | Lh ↦ refl | Lw ↦ refl | Lbu ↦ refl | Lhu ↦ refl ]
 chosen (Store k r1 imm rd) w f = elim k as (λ k. Chosen (Store k r1 imm rd) w f) [ Sb ↦ refl | Sh ↦ refl | Sw ↦ refl ]
+chosen i w f = refl
 
 -- A word with the number of an instruction reads as that instruction with the word's fields
 pub leads : (i : Instruction) (w : ℕ) → opcode w ≡ op (form i) → function w ≡ fn (form i) (function w) → reading w ≡ (0, some (filled i w))
 unfolding reading
 leads i w eo ef = ap₂ (λ (o f : ℕ). among o f (instructions w)) eo ef ∙ chosen i w (function w)
 
--- Where the answer is 23, there is no instruction
-bare : (o f : ℕ) (is : List Instruction) → (among o f is).0 ≡ 23 → among o f is ≡ (23, none)
-bare o f [] e = refl
-bare o f (i ∷ is) e = by (numbered o f (form i)) (bare o f is) e
-  where
-    by : (b : Bool) → ((among o f is).0 ≡ 23 → among o f is ≡ (23, none)) → (pick {A = ℕ × Option Instruction} b (0, some i) (among o f is)).0 ≡ 23 → pick {A = ℕ × Option Instruction} b (0, some i) (among o f is) ≡ (23, none)
-    by true next e = absurd (omega arith)
-    by false next e = next e
-
--- Numbers from lo on, n of them, that no function of an R word has, or no opcode, lead to 23
-pub no_function : (lo n w : ℕ) → T (every (λ k. eqb (among 0 k (instructions w)).0 23) lo n) → opcode w ≡ 0 → lo ≤ function w → function w < lo + n → reading w ≡ (23, none)
-unfolding reading
-no_function lo n w t e l h = rw e (bare 0 (function w) (instructions w) (eqb-true (among 0 (function w) (instructions w)).0 23 (every_at (λ k. eqb (among 0 k (instructions w)).0 23) lo n t (function w) l h)))
-
-pub no_opcode : (lo n w : ℕ) → T (every (λ k. eqb (among k (function w) (instructions w)).0 23) lo n) → lo ≤ opcode w → opcode w < lo + n → reading w ≡ (23, none)
-unfolding reading
-no_opcode lo n w t l h = bare (opcode w) (function w) (instructions w) (eqb-true (among (opcode w) (function w) (instructions w)).0 23 (every_at (λ k. eqb (among k (function w) (instructions w)).0 23) lo n t (opcode w) l h))
-
 -- The register and the immediate forms of a group have the same order
 pub shift_offset : (s : Shift) → shift_register_no s ≡ shift_immediate_no s + 4
-shift_offset s = elim s as (λ s. shift_register_no s ≡ shift_immediate_no s + 4) [ Sll ↦ refl | Sla ↦ refl | Srl ↦ refl | Sra ↦ refl ]
+shift_offset s = grind arith
 
 pub arithmetic_offset : (a : Arithmetic) → arithmetic_register_no a ≡ arithmetic_immediate_no a + 0x18
-arithmetic_offset a = elim a as (λ a. arithmetic_register_no a ≡ arithmetic_immediate_no a + 0x18) [ Addo ↦ refl | Add ↦ refl | Subo ↦ refl | Sub ↦ refl | And ↦ refl | Or ↦ refl | Xor ↦ refl ]
+arithmetic_offset a = grind arith
 
 pub compare_offset : (k : Comparison) → compare_register_no k ≡ compare_immediate_no k + 0x10
-compare_offset k = elim k as (λ k. compare_register_no k ≡ compare_immediate_no k + 0x10) [ Sgr ↦ refl | Seq ↦ refl | Sge ↦ refl | Sls ↦ refl | Sne ↦ refl | Sle ↦ refl ]
-
--- The number f of a register form, b, from that of the immediate form, a, which was read k below it
-pub moved : (k d : ℕ) {n a b f : ℕ} → k + d ≤ n → n ≡ f → a ≡ n - k → b ≡ a + k → f ≡ b
-moved k d l e ea eb = omega arith
-
--- Numbers have six bits
-pub function_below : (w : ℕ) → function w < 64
-unfolding function
-function_below w = omega arith
-
-pub opcode_below : (w : ℕ) → w < 2 ^ 32 → opcode w < 64
-unfolding opcode
-opcode_below w h = omega arith
-
--- A number is below another or not
-pub below_or_not : (a b : ℕ) → (a < b) ⊎ (b ≤ a)
-below_or_not a b = by (ltb a b) refl
-  where
-    by : (t : Bool) → ltb a b ≡ t → (a < b) ⊎ (b ≤ a)
-    by true e = inl (ltb-true a b e)
-    by false e = inr (ltb-false a b e)
+compare_offset k = grind arith
 
 -- Both halves of a test
 pub both : (a b : Bool) → a && b ≡ true → (a ≡ true) × (b ≡ true)

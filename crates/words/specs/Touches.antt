@@ -1,5 +1,6 @@
 -- Document 02, request Six: what a word touches. A row for each instruction and a column for each question, to be ticked off beside the syntax of tables 1.2 to 1.4.
 use Rattle.std.specs.Prelude.{ℕ, List, [], ◌∷◌, eqb}
+use Rattle.std.specs.Prelude as rust
 use Rattle.std.proofs.Math.Option.{Option, none, some}
 use Rattle.words.specs.Fields.{pick}
 use Rattle.words.specs.Words.{reading}
@@ -7,8 +8,6 @@ use Rattle.words.specs.declared.Instruction.{Instruction}
 use Rattle.words.specs.declared.Instruction.TheVariants.{ShiftImmediate, ShiftRegister, Movs2i, Movi2s, ArithmeticRegister, Lhg, Clr, CompareRegister, Set, J, Jal, Trap, Rfe, Beqz, Bnez, ArithmeticImmediate, Lhgi, Jr, Jalr, Clri, CompareImmediate, Seti, Load, Store}
 use Rattle.words.specs.declared.Reads.{Reads}
 use Rattle.words.specs.declared.Reads.TheVariants as general
-use Rattle.words.specs.declared.Writes.{Writes}
-use Rattle.words.specs.declared.Writes.TheVariants as into
 use Rattle.words.specs.declared.Special.{Special}
 use Rattle.words.specs.declared.Special.TheVariants.{None, Read, Written, Return}
 use Rattle.words.specs.declared.Touches.{Touches}
@@ -82,9 +81,9 @@ reads_of general.None = []
 reads_of (general.One a) = a ∷ []
 reads_of (general.Two a b) = a ∷ b ∷ []
 
-abbrev pub writes_of : Writes → Option ℕ
-writes_of into.None = none
-writes_of (into.One n) = some n
+abbrev pub writes_of : rust.Option ℕ → Option ℕ
+writes_of rust.None = none
+writes_of (rust.Some n) = some n
 
 abbrev pub touches_of_lem : Touches → Touch
 touches_of_lem t = (reads_of t.reads, writes_of t.writes, t.special)

@@ -1,6 +1,7 @@
 -- Document 01, "Words": the 58 legal words. One table gives each instruction its format, its number and its fields;
 -- reading and making are both defined from it.
 use Rattle.std.specs.Prelude.{ℕ, ◌+◌, ◌*◌, ◌-◌, ◌%◌, ◌^◌, Bool, true, ◌&&◌, List, [], ◌∷◌, ◌++◌, map, ltb, eqb, ℤ, pos, negsuc, neg_ℤ}
+use Rattle.std.specs.Prelude as rust
 use Rattle.std.proofs.Math.Option.{Option, none, some}
 use Rattle.std.specs.Int.Signed.{le_z}
 use Rattle.words.specs.Fields.{pick, opcode, function, rs1, second, third, amount, immediate16, immediate26}
@@ -16,10 +17,6 @@ use Rattle.words.specs.declared.LoadKind.{LoadKind}
 use Rattle.words.specs.declared.LoadKind.TheVariants.{Lb, Lh, Lw, Lbu, Lhu}
 use Rattle.words.specs.declared.StoreKind.{StoreKind}
 use Rattle.words.specs.declared.StoreKind.TheVariants.{Sb, Sh, Sw}
-use Rattle.words.specs.declared.Reading.{Reading}
-use Rattle.words.specs.declared.Reading.TheVariants.{Legal, Illegal}
-use Rattle.words.specs.declared.Made.{Made}
-use Rattle.words.specs.declared.Made.TheVariants.{Word, Refused}
 
 -- ---- The numbers, in hex, in the document's order
 
@@ -184,9 +181,9 @@ numbered o f (form_i n a d m) = eqb o n
 numbered o f (form_j n m) = eqb o n
 
 -- The paper's number and values of each answer of the reader
-abbrev pub reading_answer : Reading → ℕ × Option Instruction
-reading_answer (Legal i) = (0, some i)
-reading_answer Illegal = (23, none)
+abbrev pub reading_answer : rust.Option Instruction → ℕ × Option Instruction
+reading_answer (rust.Some i) = (0, some i)
+reading_answer rust.None = (23, none)
 
 -- The one of some instructions that has the number o, f; 23 and none where no one has it
 abbrev pub among : ℕ → ℕ → List Instruction → ℕ × Option Instruction
@@ -231,9 +228,9 @@ word (form_i op a d m) = op * 2 ^ 26 + number a * 2 ^ 21 + number d * 2 ^ 16 + m
 word (form_j op m) = op * 2 ^ 26 + modulus (2 ^ 26) m
 
 -- The paper's number and values of each answer of the maker
-abbrev pub made_answer : Made → ℕ × Option ℕ
-made_answer (Word w) = (0, some w)
-made_answer Refused = (14, none)
+abbrev pub made_answer : rust.Option ℕ → ℕ × Option ℕ
+made_answer (rust.Some w) = (0, some w)
+made_answer rust.None = (14, none)
 
 -- Laying a form out: 14 and no word for a register or SA above 31 or an immediate outside its range
 unfoldable pub laid : Form → ℕ × Option ℕ

@@ -11,16 +11,12 @@ pub(crate) const THIRD: u32 = 11;
 
 pub(crate) const AMOUNT: u32 = 6;
 
-// How many numbers a field holds: registers and SA, the function, the immediates of I and of J words.
+// How many numbers a field holds: registers and SA, and the function.
 pub(crate) const REGISTERS: u32 = 32;
 
 pub(crate) const FUNCTIONS: u32 = 64;
 
-pub(crate) const I_RANGE: u32 = 65536;
+// Half the numbers that an immediate of I and of J words holds: those below nothing.
+pub(crate) const I_HALF: u32 = 32768;
 
-pub(crate) const J_RANGE: u32 = 67108864;
-
-// Half of an immediate's numbers are below nothing.
-pub(crate) const I_HALF: i32 = 32768;
-
-pub(crate) const J_HALF: i32 = 33554432;
+pub(crate) const J_HALF: u32 = 33554432;

@@ -7,18 +7,16 @@ ghost use Rattle.std.specs.Prelude.{◌≡◌};
 ghost use Rattle.words.specs.Words.{reading, reading_answer, making, made_answer};
 
 mod fields;
+mod groups;
 mod layout;
 mod maker;
-mod members;
-mod numbers;
 mod reader;
 mod touching;
 
+pub use fields::Word;
+pub use groups::Numbered;
+use groups::{ARITHMETIC_REGISTER, COMPARE_REGISTER, SHIFT_REGISTER};
 use maker::{immediate, jump, register};
-use numbers::{
-    ARITHMETIC_REGISTER, COMPARE_REGISTER, SHIFT_REGISTER, arithmetic_immediate, compare_immediate,
-    load, shift_immediate, store,
-};
 pub use touching::touches_of;
 
 // The register that jal and jalr write.
@@ -79,53 +77,53 @@ pub enum Instruction {
 }
 
 // The four shifts, by register or by SA.
-#[derive(Clone, Copy)]
+#[derive(Clone, Copy, Debug, PartialEq, Eq)]
 pub enum Shift {
-    Sll,
-    Sla,
-    Srl,
-    Sra,
+    Sll = 0x00,
+    Sla = 0x01,
+    Srl = 0x02,
+    Sra = 0x03,
 }
 
 // The seven sums, differences and logical operations, on a register or an immediate. A name that ends in o may overflow.
-#[derive(Clone, Copy)]
+#[derive(Clone, Copy, Debug, PartialEq, Eq)]
 pub enum Arithmetic {
-    Addo,
-    Add,
-    Subo,
-    Sub,
-    And,
-    Or,
-    Xor,
+    Addo = 0x08,
+    Add = 0x09,
+    Subo = 0x0A,
+    Sub = 0x0B,
+    And = 0x0C,
+    Or = 0x0D,
+    Xor = 0x0E,
 }
 
 // The six comparisons, with a register or an immediate.
-#[derive(Clone, Copy)]
+#[derive(Clone, Copy, Debug, PartialEq, Eq)]
 pub enum Comparison {
-    Sgr,
-    Seq,
-    Sge,
-    Sls,
-    Sne,
-    Sle,
+    Sgr = 0x19,
+    Seq = 0x1A,
+    Sge = 0x1B,
+    Sls = 0x1C,
+    Sne = 0x1D,
+    Sle = 0x1E,
 }
 
-// The five loads.
-#[derive(Clone, Copy)]
+// The five loads; 22 is none.
+#[derive(Clone, Copy, Debug, PartialEq, Eq)]
 pub enum LoadKind {
-    Lb,
-    Lh,
-    Lw,
-    Lbu,
-    Lhu,
+    Lb = 0x20,
+    Lh = 0x21,
+    Lw = 0x23,
+    Lbu = 0x24,
+    Lhu = 0x25,
 }
 
-// The three stores.
-#[derive(Clone, Copy)]
+// The three stores; 2A is none.
+#[derive(Clone, Copy, Debug, PartialEq, Eq)]
 pub enum StoreKind {
-    Sb,
-    Sh,
-    Sw,
+    Sb = 0x28,
+    Sh = 0x29,
+    Sw = 0x2B,
 }
 
 // The general registers that an instruction reads, in order: RS1, then RS2 or a store's RD.
@@ -134,13 +132,6 @@ pub enum Reads {
     None,
     One(u8),
     Two(u8, u8),
-}
-
-// The general register that an instruction writes: none for R0.
-#[derive(Clone, Copy)]
-pub enum Writes {
-    None,
-    One(u8),
 }
 
 // What an instruction does with the special registers.
@@ -159,55 +150,32 @@ pub enum Special {
 #[derive(Clone, Copy)]
 pub struct Touches {
     pub reads: Reads,
-    pub writes: Writes,
+    // The general register that it writes: none for R0.
+    pub writes: Option<u8>,
     pub special: Special,
 }
 
-// What reading a word answers.
-#[derive(Clone, Copy)]
-pub enum Reading {
-    Legal(Instruction),
-    // 23
-    Illegal,
-}
-
-// What making a word answers.
-#[derive(Clone, Copy)]
-pub enum Made {
-    Word(u32),
-    // 14
-    Refused,
-}
-
-// The instruction that a word means, or 23. Unused fields of the word may hold anything.
-pub fn read(word: u32) -> Reading
+// The instruction that a word means; none, which is 23, for an illegal word. Unused fields of the word may hold anything.
+pub fn read(word: u32) -> Option<Instruction>
     ensures { reading_answer result ≡ reading word }
 {
-    let opcode = fields::opcode_of(word);
-    match opcode {
-        0x00 => reader::register(word),
-        0x02..=0x03 => Reading::Legal(reader::jump(word, opcode)),
-        0x04..=0x05 => Reading::Legal(reader::branch(word, opcode)),
-        0x08..=0x0F => Reading::Legal(reader::arithmetic(word, opcode)),
-        0x16..=0x1F => Reading::Legal(reader::test(word, opcode)),
-        0x20..=0x2B => reader::memory(word, opcode),
-        0x3E..=0x3F => Reading::Legal(reader::system(word, opcode)),
-        _ => Reading::Illegal,
-    }
+    reader::read(Word(word))
 }
 
-// The word of an instruction, its unused fields zero; 14 for a register or SA above 31 or an immediate outside its range.
-pub fn make(instruction: Instruction) -> Made
+// The word of an instruction, its unused fields zero; none, which is 14, for a register or SA above 31 or an immediate outside
+// its range.
+#[tactic(auto, unfolding(crate::specs::Words::laid))]
+pub fn make(instruction: Instruction) -> Option<u32>
     ensures { made_answer result ≡ making instruction }
 {
     match instruction {
-        Instruction::ShiftImmediate(s, rd, rs1, sa) => register(rs1, 0, rd, sa, shift_immediate(s)),
+        Instruction::ShiftImmediate(s, rd, rs1, sa) => register(rs1, 0, rd, sa, s.number()),
         Instruction::ShiftRegister(s, rd, rs1, rs2) => register(
             rs1,
             rs2,
             rd,
             0,
-            shift_immediate(s) + SHIFT_REGISTER,
+            s.number() + SHIFT_REGISTER,
         ),
         Instruction::Movs2i(rd, sa) => register(0, 0, rd, sa, 0x10),
         Instruction::Movi2s(sa, rs1) => register(rs1, 0, 0, sa, 0x11),
@@ -216,7 +184,7 @@ pub fn make(instruction: Instruction) -> Made
             rs2,
             rd,
             0,
-            arithmetic_immediate(a) + ARITHMETIC_REGISTER,
+            a.number() + ARITHMETIC_REGISTER,
         ),
         Instruction::Lhg(rd, rs1) => register(rs1, 0, rd, 0, 0x27),
         Instruction::Clr(rd) => register(0, 0, rd, 0, 0x28),
@@ -225,7 +193,7 @@ pub fn make(instruction: Instruction) -> Made
             rs2,
             rd,
             0,
-            compare_immediate(k) + COMPARE_REGISTER,
+            k.number() + COMPARE_REGISTER,
         ),
         Instruction::Set(rd) => register(0, 0, rd, 0, 0x2F),
         Instruction::J(imm) => jump(0x02, imm),
@@ -234,24 +202,14 @@ pub fn make(instruction: Instruction) -> Made
         Instruction::Rfe => jump(0x3F, 0),
         Instruction::Beqz(rs1, imm) => immediate(0x04, rs1, 0, imm),
         Instruction::Bnez(rs1, imm) => immediate(0x05, rs1, 0, imm),
-        Instruction::ArithmeticImmediate(a, rd, rs1, imm) => immediate(
-            arithmetic_immediate(a),
-            rs1,
-            rd,
-            imm,
-        ),
+        Instruction::ArithmeticImmediate(a, rd, rs1, imm) => immediate(a.number(), rs1, rd, imm),
         Instruction::Lhgi(rd, imm) => immediate(0x0F, 0, rd, imm),
         Instruction::Jr(rs1) => immediate(0x16, rs1, 0, 0),
         Instruction::Jalr(rs1) => immediate(0x17, rs1, 0, 0),
         Instruction::Clri(rd) => immediate(0x18, 0, rd, 0),
-        Instruction::CompareImmediate(k, rd, rs1, imm) => immediate(
-            compare_immediate(k),
-            rs1,
-            rd,
-            imm,
-        ),
+        Instruction::CompareImmediate(k, rd, rs1, imm) => immediate(k.number(), rs1, rd, imm),
         Instruction::Seti(rd) => immediate(0x1F, 0, rd, 0),
-        Instruction::Load(k, rd, rs1, imm) => immediate(load(k), rs1, rd, imm),
-        Instruction::Store(k, rs1, imm, rd) => immediate(store(k), rs1, rd, imm),
+        Instruction::Load(k, rd, rs1, imm) => immediate(k.number(), rs1, rd, imm),
+        Instruction::Store(k, rs1, imm, rd) => immediate(k.number(), rs1, rd, imm),
     }
 }

@@ -1,160 +1,74 @@
-// The reader's groups: each function reads the words of some neighbouring numbers.
-ghost use Rattle.std.specs.Prelude.{◌≡◌, ◌≤◌};
-ghost use Rattle.std.proofs.Math.Option.{some};
+// The reader decides over the opcode, and over the function of an R word.
+#![tactic(auto, unfolding(crate::specs::Words::reading))]
+
+ghost use Rattle.std.specs.Prelude.{◌≡◌};
 ghost use Rattle.words.specs.Fields.{opcode};
-ghost use Rattle.words.specs.Words.{reading, reading_answer, load_no, store_no};
+ghost use Rattle.words.specs.Words.{reading, reading_answer};
 
-use crate::fields::{fields_of, function_of, immediate16_of, immediate26_of};
-use crate::members::{arithmetic_of, comparison_of, shift_of};
-use crate::{Instruction, LoadKind, Reading, StoreKind};
+use crate::fields::Word;
+use crate::groups::{ARITHMETIC_REGISTER, COMPARE_REGISTER, SHIFT_REGISTER};
+use crate::{Arithmetic, Comparison, Instruction, LoadKind, Numbered, Shift, StoreKind};
 
-// Opcode 00: the R words, by their function.
-pub(crate) fn register(word: u32) -> Reading
-    requires { opcode word ≡ 0x00 }
-    ensures { reading_answer result ≡ reading word }
+pub(crate) fn read(word: Word) -> Option<Instruction>
+    ensures { reading_answer result ≡ reading word.0 }
 {
-    let number = function_of(word);
-    let f = fields_of(word);
+    let number = word.opcode();
+    let (rd, rs1, imm) = (word.second(), word.rs1(), word.immediate16());
     let instruction = match number {
-        0x00..=0x03 => Instruction::ShiftImmediate(shift_of(number), f.third, f.rs1, f.amount),
-        0x04..=0x07 => Instruction::ShiftRegister(
-            shift_of(number - 0x04),
-            f.third,
-            f.rs1,
-            f.second,
-        ),
-        0x10 => Instruction::Movs2i(f.third, f.amount),
-        0x11 => Instruction::Movi2s(f.amount, f.rs1),
-        0x20..=0x26 => Instruction::ArithmeticRegister(
-            arithmetic_of(number - 0x18),
-            f.third,
-            f.rs1,
-            f.second,
-        ),
-        0x27 => Instruction::Lhg(f.third, f.rs1),
-        0x28 => Instruction::Clr(f.third),
-        0x29..=0x2E => Instruction::CompareRegister(
-            comparison_of(number - 0x10),
-            f.third,
-            f.rs1,
-            f.second,
-        ),
-        0x2F => Instruction::Set(f.third),
-        _ => return Reading::Illegal,
+        0x00 => return register(word),
+        0x02 => Instruction::J(word.immediate26()),
+        0x03 => Instruction::Jal(word.immediate26()),
+        0x04 => Instruction::Beqz(rs1, imm),
+        0x05 => Instruction::Bnez(rs1, imm),
+        0x08..=0x0E => {
+            let operation = Arithmetic::with_number(number)?;
+            Instruction::ArithmeticImmediate(operation, rd, rs1, imm)
+        }
+        0x0F => Instruction::Lhgi(rd, imm),
+        0x16 => Instruction::Jr(rs1),
+        0x17 => Instruction::Jalr(rs1),
+        0x18 => Instruction::Clri(rd),
+        0x19..=0x1E => {
+            let comparison = Comparison::with_number(number)?;
+            Instruction::CompareImmediate(comparison, rd, rs1, imm)
+        }
+        0x1F => Instruction::Seti(rd),
+        0x20..=0x25 => Instruction::Load(LoadKind::with_number(number)?, rd, rs1, imm),
+        0x28..=0x2B => Instruction::Store(StoreKind::with_number(number)?, rs1, imm, rd),
+        0x3E => Instruction::Trap(word.immediate26()),
+        0x3F => Instruction::Rfe,
+        _ => return None,
     };
-    Reading::Legal(instruction)
+    Some(instruction)
 }
 
-// j, jal.
-pub(crate) fn jump(word: u32, number: u32) -> Instruction
-    requires { (opcode word ≡ number) × (0x02 ≤ number) × (number ≤ 0x03) }
-    ensures { reading word ≡ (0, some result) }
+// Opcode 00: the R words.
+fn register(word: Word) -> Option<Instruction>
+    requires { opcode word.0 ≡ 0x00 }
+    ensures { reading_answer result ≡ reading word.0 }
 {
-    match number {
-        0x02 => Instruction::J(immediate26_of(word)),
-        _ => Instruction::Jal(immediate26_of(word)),
-    }
-}
-
-// beqz, bnez.
-pub(crate) fn branch(word: u32, number: u32) -> Instruction
-    requires { (opcode word ≡ number) × (0x04 ≤ number) × (number ≤ 0x05) }
-    ensures { reading word ≡ (0, some result) }
-{
-    let f = fields_of(word);
-    match number {
-        0x04 => Instruction::Beqz(f.rs1, immediate16_of(word)),
-        _ => Instruction::Bnez(f.rs1, immediate16_of(word)),
-    }
-}
-
-// addio, addi, subio, subi, andi, ori, xori, lhgi.
-pub(crate) fn arithmetic(word: u32, number: u32) -> Instruction
-    requires { (opcode word ≡ number) × (0x08 ≤ number) × (number ≤ 0x0F) }
-    ensures { reading word ≡ (0, some result) }
-{
-    let f = fields_of(word);
-    let imm = immediate16_of(word);
-    match number {
-        0x08..=0x0E => Instruction::ArithmeticImmediate(
-            arithmetic_of(number),
-            f.second,
-            f.rs1,
-            imm,
-        ),
-        _ => Instruction::Lhgi(f.second, imm),
-    }
-}
-
-// jr, jalr, clri, sgri, seqi, sgei, slsi, snei, slei, seti.
-pub(crate) fn test(word: u32, number: u32) -> Instruction
-    requires { (opcode word ≡ number) × (0x16 ≤ number) × (number ≤ 0x1F) }
-    ensures { reading word ≡ (0, some result) }
-{
-    let f = fields_of(word);
-    match number {
-        0x16 => Instruction::Jr(f.rs1),
-        0x17 => Instruction::Jalr(f.rs1),
-        0x18 => Instruction::Clri(f.second),
-        0x19..=0x1E => Instruction::CompareImmediate(
-            comparison_of(number),
-            f.second,
-            f.rs1,
-            immediate16_of(word),
-        ),
-        _ => Instruction::Seti(f.second),
-    }
-}
-
-// lb, lh, lw, lbu, lhu, sb, sh, sw; 22, 26, 27 and 2A are no words.
-pub(crate) fn memory(word: u32, number: u32) -> Reading
-    requires { (opcode word ≡ number) × (0x20 ≤ number) × (number ≤ 0x2B) }
-    ensures { reading_answer result ≡ reading word }
-{
-    if number < 0x26 {
-        match number {
-            0x20 => load(LoadKind::Lb, word),
-            0x21 => load(LoadKind::Lh, word),
-            0x23 => load(LoadKind::Lw, word),
-            0x24 => load(LoadKind::Lbu, word),
-            0x25 => load(LoadKind::Lhu, word),
-            _ => Reading::Illegal,
+    let number = word.function();
+    let (rd, rs1, rs2, sa) = (word.third(), word.rs1(), word.second(), word.amount());
+    let instruction = match number {
+        0x00..=0x03 => Instruction::ShiftImmediate(Shift::with_number(number)?, rd, rs1, sa),
+        0x04..=0x07 => {
+            let shift = Shift::with_number(number - SHIFT_REGISTER)?;
+            Instruction::ShiftRegister(shift, rd, rs1, rs2)
         }
-    } else {
-        match number {
-            0x28 => store(StoreKind::Sb, word),
-            0x29 => store(StoreKind::Sh, word),
-            0x2B => store(StoreKind::Sw, word),
-            _ => Reading::Illegal,
+        0x10 => Instruction::Movs2i(rd, sa),
+        0x11 => Instruction::Movi2s(sa, rs1),
+        0x20..=0x26 => {
+            let operation = Arithmetic::with_number(number - ARITHMETIC_REGISTER)?;
+            Instruction::ArithmeticRegister(operation, rd, rs1, rs2)
         }
-    }
-}
-
-// A load, with the word's fields.
-fn load(kind: LoadKind, word: u32) -> Reading
-    requires { opcode word ≡ load_no kind }
-    ensures { reading_answer result ≡ reading word }
-{
-    let f = fields_of(word);
-    Reading::Legal(Instruction::Load(kind, f.second, f.rs1, immediate16_of(word)))
-}
-
-// A store, with the word's fields.
-fn store(kind: StoreKind, word: u32) -> Reading
-    requires { opcode word ≡ store_no kind }
-    ensures { reading_answer result ≡ reading word }
-{
-    let f = fields_of(word);
-    Reading::Legal(Instruction::Store(kind, f.rs1, immediate16_of(word), f.second))
-}
-
-// trap, rfe.
-pub(crate) fn system(word: u32, number: u32) -> Instruction
-    requires { (opcode word ≡ number) × (0x3E ≤ number) × (number ≤ 0x3F) }
-    ensures { reading word ≡ (0, some result) }
-{
-    match number {
-        0x3E => Instruction::Trap(immediate26_of(word)),
-        _ => Instruction::Rfe,
-    }
+        0x27 => Instruction::Lhg(rd, rs1),
+        0x28 => Instruction::Clr(rd),
+        0x29..=0x2E => {
+            let comparison = Comparison::with_number(number - COMPARE_REGISTER)?;
+            Instruction::CompareRegister(comparison, rd, rs1, rs2)
+        }
+        0x2F => Instruction::Set(rd),
+        _ => return None,
+    };
+    Some(instruction)
 }
