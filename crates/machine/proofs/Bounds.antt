@@ -1,12 +1,12 @@
 -- Registers hold words: no effect of a word that is read puts or stores a number from 2 ^ 32 on, where the registers hold none.
-use Rattle.std.proofs.Common.{◌≡◌, ℕ, suc, ◌-◌, ◌/◌, ◌%◌, ◌^◌, ◌<◌, ◌≤◌, Bool, true, false, eqb, ltb, ◌⊎◌, List, length, get_or, set, ℤ, pos, negsuc, refl, inl, inr, arith, get_or-set_other, get_or-set_same, ltb-false, ltb-true, eqb-true}
+use Rattle.std.proofs.Common.{◌≡◌, ℕ, suc, ◌-◌, ◌/◌, ◌%◌, ◌^◌, ◌<◌, ◌≤◌, Bool, true, false, ltb, ◌⊎◌, List, get_or, set, ℤ, pos, negsuc, refl, inl, inr, arith, get_or-set_other, get_or-set_same, ltb-false, ltb-true}
 use mathlib.Core.Option.{none, some}
-use borrow.Author.Tests.{eqb-false}
 use lib.Bits.{and_le_l, or_lt, xor_lt}
 use lib.Pow.{shr_le}
 use lib.Seq.{set_out}
 use lib.Signed.{shr_z}
-use Rattle.words.specs.Fields.{pick, signed, immediate16}
+use Rattle.std.proofs.lemmas.Bool.Decides.{nat_tests}
+use Rattle.words.specs.Fields.{signed, immediate16}
 use Rattle.words.specs.Words.{reading}
 use Rattle.words.specs.declared.Instruction.{Instruction}
 use Rattle.words.specs.declared.Instruction.TheVariants.{ShiftImmediate, ShiftRegister, Movs2i, Movi2s, ArithmeticRegister, Lhg, Clr, CompareRegister, Set, J, Jal, Trap, Rfe, Beqz, Bnez, ArithmeticImmediate, Lhgi, Jr, Jalr, Clri, CompareImmediate, Seti, Load, Store}
@@ -22,7 +22,7 @@ use Rattle.arithmetic.specs.Rulings.{plus, minus, integer, sext, high, shifted, 
 use Rattle.arithmetic.proofs.Integers.{integer_low, integer_high}
 use Rattle.machine.specs.declared.Effect.{Effect}
 use Rattle.machine.specs.declared.Effect.TheVariants as does
-use Rattle.machine.specs.Effects.{State, register, put, put_special, computed, meaning, applied, act, moved, thirteen, one_of, SR, ESR}
+use Rattle.machine.specs.Effects.{State, register, put, put_special, computed, meaning, applied, act, moved, SR, ESR}
 use Rattle.machine.proofs.Acts.{word_reads, act_reads, act_illegal}
 
 -- Every element is a word
@@ -34,11 +34,8 @@ abbrev pub Small : Effect → Type 0
 Small (does.Put n x) = x < 2 ^ 32
 Small (does.PutSpecial n x) = x < 2 ^ 32
 Small (does.Sum n x o) = x < 2 ^ 32
-Small (does.Load k n a) = Unit {0}
 Small (does.Store k a x) = x < 2 ^ 32
-Small (does.Trap z) = Unit {0}
-Small does.Return = Unit {0}
-Small does.Nothing = Unit {0}
+Small e = Unit {0}
 
 register_small : (g : List ℕ) (n : ℕ) → Words g → register g n < 2 ^ 32
 unfolding register
@@ -53,8 +50,7 @@ unfolding minus
 minus_small a b = omega arith
 
 bit_small : (t : Bool) → bit t < 2 ^ 32
-bit_small true = omega arith
-bit_small false = omega arith
+bit_small t = grind (arith, nat_tests)
 
 compared_small : (k : Comparison) (a b : ℕ) → compared k a b < 2 ^ 32
 compared_small k a b = bit_small (satisfies k a b)
@@ -147,28 +143,15 @@ act_small w s l h = by (word_reads w)
 
 -- So registers that hold words go on holding words, where a load finds one
 set_words : (xs : List ℕ) (n x : ℕ) → x < 2 ^ 32 → Words xs → Words (set xs n x)
-set_words xs n x l w i = by (eqb i n) refl (ltb n (length xs)) refl
-  where
-    by : (t : Bool) → eqb i n ≡ t → (u : Bool) → ltb n (length xs) ≡ u → get_or (set xs n x) i 0 < 2 ^ 32
-    by false e u d = rw (get_or-set_other {A = ℕ} xs n i x 0 (eqb-false i n e)) (w i)
-    by true e true d = rw (eqb-true i n e, get_or-set_same {A = ℕ} xs n x 0 (ltb-true n (length xs) d)) l
-    by true e false d = rw (set_out {A = ℕ} xs n x (ltb-false n (length xs) d)) (w i)
+set_words xs n x l w i = grind (arith, w i, get_or-set_other {A = ℕ}, get_or-set_same {A = ℕ}, set_out {A = ℕ})
 
 put_words : (g : List ℕ) (n x : ℕ) → x < 2 ^ 32 → Words g → Words (put g n x)
 unfolding put
-put_words g n x l w = by (eqb (n % 32) 0)
-  where
-    by : (t : Bool) → Words (pick t g (set g (n % 32) x))
-    by true = w
-    by false = set_words g (n % 32) x l w
+put_words g n x l w i = grind (arith, nat_tests, w i, set_words g (n % 32) x l w i)
 
 special_words : (p : List ℕ) (n x : ℕ) → x < 2 ^ 32 → Words p → Words (put_special p n x)
 unfolding put_special
-special_words p n x l w = by (one_of n thirteen)
-  where
-    by : (t : Bool) → Words (pick t (set p n x) p)
-    by true = set_words p n x l w
-    by false = w
+special_words p n x l w i = grind (arith, nat_tests, w i, set_words p n x l w i)
 
 pub applied_words : (e : Effect) (v pc : ℕ) (g p : List ℕ) → Small e → v < 2 ^ 32 → Words g → Words p
     → Words (applied e v pc g p).1 × Words (applied e v pc g p).2

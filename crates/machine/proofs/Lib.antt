@@ -1,7 +1,9 @@
 pub mod Special
 pub mod Quiet
+pub mod Idle
 pub mod Regions
 pub mod Acts
 pub mod Touched
 pub mod Needed
 pub mod Bounds
+pub mod Refused

@@ -32,9 +32,7 @@ told (does.PutSpecial n x) = n ∷ x ∷ []
 told (does.Sum n x o) = n ∷ x ∷ pick o 1 0 ∷ []
 told (does.Load k n a) = n ∷ a ∷ []
 told (does.Store k a x) = a ∷ x ∷ []
-told (does.Trap z) = []
-told does.Return = []
-told does.Nothing = []
+told e = []
 
 -- What an instruction does from PC' 0: the next PC', DPC and SR, which rfe takes from special registers, and the effect
 abbrev done : Instruction → List ℕ → List ℕ → List ℕ

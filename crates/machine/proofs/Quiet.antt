@@ -1,8 +1,9 @@
 -- R0, the unused special registers and MODE stay 0: no effect that leaves MODE at 0 sets one of them.
-use Rattle.std.proofs.Common.{◌≡◌, ℕ, zero, suc, ◌%◌, ◌<◌, Bool, true, false, not, ◌&&◌, ◌||◌, eqb, List, [], ◌∷◌, get_or, set, sym, refl, ap, ◌∙◌, arith, get_or-set_other, eq-eqb, eqb-true}
+use Rattle.std.proofs.Common.{◌≡◌, ℕ, zero, suc, ◌%◌, ◌<◌, Bool, true, false, not, ◌&&◌, eqb, List, [], ◌∷◌, get_or, set, refl, ap, ◌∙◌, arith, get_or-set_other, eqb-true}
 use borrow.Author.Tests.{eqb-false, not-false}
+use Rattle.std.proofs.lemmas.Bool.{or_parts}
+use Rattle.std.proofs.lemmas.Bool.Decides.{nat_tests}
 use Rattle.words.specs.Fields.{pick}
-use Rattle.words.proofs.Signed.{false_true}
 use Rattle.machine.specs.declared.Machine.{Machine}
 use Rattle.machine.specs.declared.Effect.{Effect}
 use Rattle.machine.specs.declared.Effect.TheVariants as does
@@ -13,15 +14,12 @@ use Rattle.machine.proofs.Special.{loud, loud_not}
 -- Nothing of a list passes a test, number by number
 none_passes : (p : ℕ → Bool) (n : ℕ) → any_below p n ≡ false → (k : ℕ) → k < n → p k ≡ false
 none_passes p zero e k l = absurd (omega arith)
-none_passes p (suc n) e k l = by (p n) refl e (eqb k n) refl (none_passes p n)
-  where
-    by : (t : Bool) → p n ≡ t → (t || any_below p n) ≡ false → (u : Bool) → eqb k n ≡ u
-        → (any_below p n ≡ false → (k : ℕ) → k < n → p k ≡ false) → p k ≡ false
-    by true f e u q next = absurd (false_true (sym e))
-    by false f e true q next = ap p (eqb-true k n q) ∙ f
-    by false f e false q next = next e k (let r : k ≡ n → ⊥ = eqb-false k n q in omega arith)
+none_passes p (suc n) e k l =
+    let o : (p n ≡ false) × (any_below p n ≡ false) = or_parts (p n) (any_below p n) e in
+    let rest : k < n → p k ≡ false = none_passes p n o.1 k in
+    grind (arith, o.0, rest)
 
-each_fails : (p : ℕ → Bool) (n : ℕ) → ((k : ℕ) → k < n → p k ≡ false) → any_below p n ≡ false
+pub each_fails : (p : ℕ → Bool) (n : ℕ) → ((k : ℕ) → k < n → p k ≡ false) → any_below p n ≡ false
 each_fails p zero f = refl
 each_fails p (suc n) f = rw (f n (omega arith)) (each_fails p n (λ k l. f k (omega arith)))
 
@@ -49,11 +47,7 @@ pub record Quiet (g p : List ℕ) : Type 0 where
 
 quiet_put : (g : List ℕ) (n x : ℕ) → get_or g 0 0 ≡ 0 → get_or (put g n x) 0 0 ≡ 0
 unfolding put
-quiet_put g n x e = by (eqb (n % 32) 0) refl
-  where
-    by : (t : Bool) → eqb (n % 32) 0 ≡ t → get_or (pick t g (set g (n % 32) x)) 0 0 ≡ 0
-    by true f = e
-    by false f = get_or-set_other {A = ℕ} g (n % 32) 0 x 0 (λ q. eqb-false (n % 32) 0 f (sym q)) ∙ e
+quiet_put g n x e = grind (arith, nat_tests, get_or-set_other {A = ℕ})
 
 quiet_special : (p : List ℕ) (n x : ℕ) → mode_set (does.PutSpecial n x) ≡ false → idle_set_lem p ≡ false → idle_set_lem (put_special p n x) ≡ false
 unfolding put_special mode_set
@@ -83,15 +77,11 @@ quiet_moved w v s m q = quiet_applied (act w s).0 v s.pc s.gpr s.spr m q
 -- A record passes test 11 exactly where its registers are quiet
 pub quiet_record : (m : Machine) → not_zero_lem m ≡ false → Quiet m.gpr m.spr
 unfolding not_zero_lem
-quiet_record m e = by (eqb (get_or m.gpr 0 0) 0) refl e
-  where
-    by : (t : Bool) → eqb (get_or m.gpr 0 0) 0 ≡ t → (not t || idle_set_lem m.spr) ≡ false → Quiet m.gpr m.spr
-    by true f e = record { zero_register = eqb-true (get_or m.gpr 0 0) 0 f; idle_registers = e }
-    by false f e = absurd (false_true (sym e))
+quiet_record m e = record { zero_register = grind (arith, nat_tests); idle_registers = (or_parts _ _ e).1 }
 
 pub record_quiet : (m : Machine) → Quiet m.gpr m.spr → not_zero_lem m ≡ false
 unfolding not_zero_lem
-record_quiet m q = rw (eq-eqb (get_or m.gpr 0 0) 0 q.zero_register) q.idle_registers
+record_quiet m q = grind (arith, nat_tests, q.zero_register, q.idle_registers)
 
 -- ---- "R0 is always 0", and "the others read zero"
 

@@ -1,73 +1,38 @@
 -- What a region holds, and test 10 in the paper's words: some address is in both regions.
-use Rattle.std.proofs.Common.{◌≡◌, ℕ, ◌+◌, ◌-◌, ◌*◌, ◌/◌, ◌%◌, ◌<◌, ◌≤◌, Bool, true, false, not, ◌&&◌, ◌||◌, eqb, ltb, leb, List, get_or, sym, refl, ap, ◌∙◌, arith, ltb-false, ltb-true, le-ltb, lt-ltb, eqb-true, le-leb, leb-true}
-use borrow.Author.Tests.{eqb-false, not-false}
+use Rattle.std.proofs.Common.{◌≡◌, ℕ, ◌+◌, ◌-◌, ◌*◌, ◌/◌, ◌%◌, ◌<◌, ◌≤◌, Bool, true, false, ◌&&◌, ltb, List, get_or, sym, refl, ap, ◌∙◌, arith}
+use Rattle.std.proofs.lemmas.Bool.{and_parts}
+use Rattle.std.proofs.lemmas.Bool.Decides.{nat_tests}
 use Rattle.words.specs.Fields.{pick}
 use Rattle.words.proofs.Signed.{false_true}
-use Rattle.machine.proofs.Special.{and_false}
 use Rattle.machine.specs.declared.Machine.{Machine}
 use Rattle.machine.specs.declared.Region.{Region}
 use Rattle.machine.specs.Record.{LONGEST, MEMORY, holds, wrong_count_lem, unaligned_start_lem, past_memory_lem, later, overlap, word_at, image}
-
--- ---- Tests that are joined
-
-pub both_left : (a b : Bool) → (a && b) ≡ true → a ≡ true
-both_left true b e = refl
-both_left false b e = e
-
-pub both_right : (a b : Bool) → (a && b) ≡ true → b ≡ true
-both_right true b e = e
-both_right false b e = absurd (false_true e)
-
-pub either_left : (a b : Bool) → (a || b) ≡ false → a ≡ false
-either_left true b e = e
-either_left false b e = refl
-
-either_true : (a : Bool) → (a || true) ≡ true
-either_true true = refl
-either_true false = refl
-
-pub either_right : (a b : Bool) → (a || b) ≡ false → b ≡ false
-either_right true b e = absurd (false_true (sym e))
-either_right false b e = e
 
 -- ---- What the tests 6, 8 and 9 leave of the regions
 
 module _ (m : Machine) where
   pub right_count : wrong_count_lem m ≡ false → (m.code.words ≡ 0 → ⊥) × (m.code.words ≤ LONGEST) × (m.«data».words ≤ LONGEST)
   unfolding wrong_count_lem
-  right_count e = (
-    eqb-false m.code.words 0 (either_left (eqb m.code.words 0) _ (either_left (eqb m.code.words 0 || ltb LONGEST m.code.words) _ e)),
-    ltb-false LONGEST m.code.words (either_right (eqb m.code.words 0) _ (either_left (eqb m.code.words 0 || ltb LONGEST m.code.words) _ e)),
-    ltb-false LONGEST m.«data».words (either_right (eqb m.code.words 0 || ltb LONGEST m.code.words) _ e),
-  )
+  right_count e = grind (arith, nat_tests)
 
   pub aligned_starts : unaligned_start_lem m ≡ false → (m.code.start % 4 ≡ 0) × (m.«data».start % 4 ≡ 0)
   unfolding unaligned_start_lem
-  aligned_starts e = (
-    eqb-true (m.code.start % 4) 0 (not-false (eqb (m.code.start % 4) 0) (either_left (not (eqb (m.code.start % 4) 0)) _ e)),
-    eqb-true (m.«data».start % 4) 0 (not-false (eqb (m.«data».start % 4) 0) (either_right (not (eqb (m.code.start % 4) 0)) _ e)),
-  )
+  aligned_starts e = grind (arith, nat_tests)
 
   pub in_memory : past_memory_lem m ≡ false → (m.code.start + 4 * m.code.words ≤ MEMORY) × (m.«data».start + 4 * m.«data».words ≤ MEMORY)
   unfolding past_memory_lem
-  in_memory e = (
-    ltb-false MEMORY (m.code.start + 4 * m.code.words) (either_left (ltb MEMORY (m.code.start + 4 * m.code.words)) _ e),
-    ltb-false MEMORY (m.«data».start + 4 * m.«data».words) (either_right (ltb MEMORY (m.code.start + 4 * m.code.words)) _ e),
-  )
+  in_memory e = grind (arith, nat_tests)
 
 -- ---- A region
 
 pub holds_yes : (r : Region) (a : ℕ) → holds r a ≡ true → (r.start ≤ a) × (a < r.start + 4 * r.words)
-holds_yes r a e = (
-  leb-true r.start a (both_left (leb r.start a) (ltb a (r.start + 4 * r.words)) e),
-  ltb-true a (r.start + 4 * r.words) (both_right (leb r.start a) (ltb a (r.start + 4 * r.words)) e),
-)
+holds_yes r a e = grind (arith, nat_tests)
 
 pub holds_in : (r : Region) (a : ℕ) → r.start ≤ a → a < r.start + 4 * r.words → holds r a ≡ true
-holds_in r a l h = rw (le-leb r.start a l, lt-ltb a (r.start + 4 * r.words) h)
+holds_in r a l h = grind (arith, nat_tests)
 
 pub holds_out : (r : Region) (a : ℕ) → r.start + 4 * r.words ≤ a → holds r a ≡ false
-holds_out r a l = rw (le-ltb a (r.start + 4 * r.words) l) (and_false (leb r.start a))
+holds_out r a l = grind (arith, nat_tests)
 
 -- The place of an address in its region's list
 pub placed : (r : Region) (a : ℕ) → holds r a ≡ true → (a - r.start) / 4 < r.words
@@ -100,18 +65,14 @@ module _ (m : Machine) where
           → (m.code.start ≤ s.address) × (s.address < m.code.start + 4 * m.code.words)
           → (m.«data».start ≤ s.address) × (s.address < m.«data».start + 4 * m.«data».words)
           → (holds m.code (pick t m.«data».start m.code.start) && holds m.«data» (pick t m.«data».start m.code.start)) ≡ true
-      by true e h k =
-          let l : m.code.start < m.«data».start = ltb-true m.code.start m.«data».start e in
-          rw (holds_in m.code m.«data».start (omega arith) (omega arith)) (holds_in m.«data» m.«data».start (omega arith) (omega arith))
-      by false e h k =
-          let l : m.«data».start ≤ m.code.start = ltb-false m.code.start m.«data».start e in
-          rw (holds_in m.code m.code.start (omega arith) (omega arith)) (holds_in m.«data» m.code.start (omega arith) (omega arith))
+      by true e h k = grind (arith, nat_tests)
+      by false e h k = grind (arith, nat_tests)
 
   pub overlaps_shared : overlap m ≡ true → Shared m
   unfolding overlap
   overlaps_shared e =
       let a = later m.code.start m.«data».start in
-      record { address = a; in_code = both_left (holds m.code a) (holds m.«data» a) e; in_data = both_right (holds m.code a) (holds m.«data» a) e }
+      record { address = a; in_code = (and_parts _ _ e).0; in_data = (and_parts _ _ e).1 }
 
   pub apart_disjoint : overlap m ≡ false → Disjoint m.code m.«data»
   apart_disjoint e a h k = false_true (sym e ∙ shared_overlaps (record { address = a; in_code = h; in_data = k }))
@@ -142,11 +103,7 @@ module _ (c d : Region) (code ws : List ℕ) (a : ℕ) where
 
   pub image_data : Disjoint c d → holds d a ≡ true → image c d code ws a ≡ word_at d ws a
   unfolding image
-  image_data n h = by (holds c a) refl
-    where
-      by : (t : Bool) → holds c a ≡ t → pick t (word_at c code a) (pick (holds d a) (word_at d ws a) 0) ≡ word_at d ws a
-      by true k = absurd (n a k h)
-      by false k = rw h
+  image_data n h = grind (arith, nat_tests, n a)
 
   pub image_else : holds c a ≡ false → holds d a ≡ false → image c d code ws a ≡ 0
   unfolding image

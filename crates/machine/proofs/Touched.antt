@@ -1,8 +1,8 @@
 -- Document 02, request Six: what a word is said to touch is what a step of it touches. A step of either machine leaves `moved w v s`, v being what a load found.
-use Rattle.std.proofs.Common.{◌≡◌, ℕ, ◌%◌, ◌<◌, Bool, true, false, eqb, ◌⊎◌, List, [], ◌∷◌, length, get_or, set, sym, refl, ap, ◌∙◌, subst, ap₂, inl, inr, arith, length-set, get_or-set_other, get_or-set_same, ne_eqb, eqb-true}
+use Rattle.std.proofs.Common.{◌≡◌, ℕ, ◌%◌, ◌<◌, ◌⊎◌, List, [], ◌∷◌, length, get_or, sym, refl, ap, ◌∙◌, subst, ap₂, inl, inr, arith, length-set, get_or-set_other, get_or-set_same, ne_eqb}
 use mathlib.Core.Option.{Option, none, some}
-use borrow.Author.Tests.{eqb-false}
-use Rattle.words.specs.Fields.{pick, field, rs1, second, third}
+use Rattle.std.proofs.lemmas.Bool.Decides.{nat_tests}
+use Rattle.words.specs.Fields.{field, rs1, second, third}
 use Rattle.words.specs.Words.{reading}
 use Rattle.words.specs.Touches.{Touch, to, touches, touched, reads, writes, number_of, special}
 use Rattle.words.specs.declared.Special.{Special}
@@ -17,7 +17,7 @@ use Rattle.words.proofs.Touched.{touched_legal, touched_illegal, never_r0}
 use Rattle.arithmetic.specs.Rulings.{plus}
 use Rattle.machine.specs.declared.Effect.{Effect}
 use Rattle.machine.specs.declared.Effect.TheVariants as does
-use Rattle.machine.specs.Effects.{State, SR, ESR, EPC, EDPC, one_of, thirteen, register, put, put_special, computed, meaning, applied, act, moved}
+use Rattle.machine.specs.Effects.{State, SR, ESR, EPC, EDPC, register, put, put_special, computed, meaning, applied, act, moved}
 use Rattle.machine.proofs.Acts.{word_reads, act_reads, act_illegal}
 
 -- ---- What an effect writes
@@ -25,13 +25,9 @@ use Rattle.machine.proofs.Acts.{word_reads, act_reads, act_illegal}
 -- The general register, 0 for none: R0 is never written
 abbrev pub target : Effect → ℕ
 target (does.Put n x) = n % 32
-target (does.PutSpecial n x) = 0
 target (does.Sum n x o) = n % 32
 target (does.Load k n a) = n % 32
-target (does.Store k a x) = 0
-target (does.Trap z) = 0
-target does.Return = 0
-target does.Nothing = 0
+target e = 0
 
 target_below : (e : Effect) → target e < 32
 target_below (does.Put n x) = omega arith
@@ -46,24 +42,15 @@ target_below does.Nothing = omega arith
 -- What it puts there, v being what a load found
 abbrev pub value : Effect → ℕ → ℕ
 value (does.Put n x) v = x
-value (does.PutSpecial n x) v = 0
 value (does.Sum n x o) v = x
 value (does.Load k n a) v = v
-value (does.Store k a x) v = 0
-value (does.Trap z) v = 0
-value does.Return v = 0
-value does.Nothing v = 0
+value e v = 0
 
 -- The special registers
 abbrev changes : Effect → Special
-changes (does.Put n x) = None
 changes (does.PutSpecial n x) = Written n
-changes (does.Sum n x o) = None
-changes (does.Load k n a) = None
-changes (does.Store k a x) = None
-changes (does.Trap z) = None
 changes does.Return = Return
-changes does.Nothing = None
+changes e = None
 
 put_same : (g : List ℕ) (n x r : ℕ) → length g ≡ 32 → n % 32 ≡ r → (r ≡ 0 → ⊥) → get_or (put g n x) r 0 ≡ x
 unfolding put
@@ -71,27 +58,15 @@ put_same g n x r l e z = rw (e, ne_eqb r 0 z) (get_or-set_same g r x 0 (omega ar
 
 put_other : (g : List ℕ) (n x r : ℕ) → (n % 32 ≡ r → r ≡ 0) → get_or (put g n x) r 0 ≡ get_or g r 0
 unfolding put
-put_other g n x r z = by (eqb (n % 32) 0) refl
-  where
-    by : (t : Bool) → eqb (n % 32) 0 ≡ t → get_or (pick t g (set g (n % 32) x)) r 0 ≡ get_or g r 0
-    by true e = refl
-    by false e = get_or-set_other g (n % 32) r x 0 (λ (q : r ≡ n % 32). eqb-false (n % 32) 0 e (sym q ∙ z (sym q)))
+put_other g n x r z = grind (arith, nat_tests, get_or-set_other {A = ℕ})
 
 put_length : (g : List ℕ) (n x : ℕ) → length (put g n x) ≡ length g
 unfolding put
-put_length g n x = by (eqb (n % 32) 0)
-  where
-    by : (t : Bool) → length (pick t g (set g (n % 32) x)) ≡ length g
-    by true = refl
-    by false = length-set g (n % 32) x
+put_length g n x = grind (arith, nat_tests, length-set {A = ℕ})
 
 special_other : (p : List ℕ) (n x r : ℕ) → (Written n ≡ Written r → ⊥) → get_or (put_special p n x) r 0 ≡ get_or p r 0
 unfolding put_special
-special_other p n x r z = by (one_of n thirteen)
-  where
-    by : (t : Bool) → get_or (pick t (set p n x) p) r 0 ≡ get_or p r 0
-    by true = get_or-set_other p n r x 0 (λ (q : r ≡ n). z (ap Written (sym q)))
-    by false = refl
+special_other p n x r z = let d : r ≡ n → ⊥ = λ q. z (ap Written (sym q)) in grind (arith, nat_tests, get_or-set_other {A = ℕ}, d)
 
 module _ (v pc : ℕ) (g p : List ℕ) where
   applied_length : (e : Effect) → length (applied e v pc g p).1 ≡ length g
@@ -154,11 +129,7 @@ Said a t = (target a.0 ≡ number_of t.1) × (changes a.0 ≡ change t.2)
 -- RD is a field of five bits
 to_field : (k w : ℕ) → field k w % 32 ≡ number_of (to (field k w))
 unfolding field
-to_field k w = by (eqb (field k w) 0) refl
-  where
-    by : (t : Bool) → eqb (field k w) 0 ≡ t → field k w % 32 ≡ number_of (pick t none (some (field k w)))
-    by true e = let q : field k w ≡ 0 = eqb-true (field k w) 0 e in omega arith
-    by false e = omega arith
+to_field k w = grind (arith, nat_tests)
 
 -- Sums, differences and logical operations put a value in RD
 computed_target : (a : Arithmetic) (d x y : ℕ) → (target (computed a d x y) ≡ d % 32) × (changes (computed a d x y) ≡ None)

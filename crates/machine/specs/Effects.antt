@@ -14,6 +14,7 @@ use Rattle.words.specs.declared.StoreKind.TheVariants.{Sb, Sh, Sw}
 use Rattle.arithmetic.specs.Rulings.{plus, minus, integer, sext, high, shifted, compared, beyond}
 use Rattle.machine.specs.declared.Effect.{Effect}
 use Rattle.machine.specs.declared.Effect.TheVariants as does
+use Rattle.machine.specs.declared.State.{State as Declared}
 
 -- ---- The registers
 
@@ -136,22 +137,24 @@ applied does.Nothing v pc g p = (pc, g, p)
 -- ---- A step's share that both machines have
 
 -- The counters and the registers of a machine
-pub record State : Type 0 where
-  pub dpc : ℕ
-  pub pc : ℕ
-  pub gpr : List ℕ
-  pub spr : List ℕ
+abbrev pub State : Type 0
+State = Declared
 
 -- What the word w does: its effect and the next PC'. (An illegal word does nothing, and no step runs one.)
 unfoldable pub act : ℕ → State → Effect × ℕ
 act w s = elim (reading w).1 [ some i ↦ meaning i s.pc s.gpr s.spr | none ↦ (does.Nothing, plus s.pc 4) ]
 
--- The state after the word w, where v is what a load found
+-- The state after an effect, where v is what a load found and n the next PC'
+abbrev pub performed : Effect → ℕ → ℕ → State → State
+performed e v n s =
+    let a = applied e v s.pc s.gpr s.spr in
+    record { dpc = a.0; pc = n; gpr = a.1; spr = a.2 }
+
+-- The state after the word w
 unfoldable pub moved : ℕ → ℕ → State → State
 moved w v s =
     let e = act w s in
-    let a = applied e.0 v s.pc s.gpr s.spr in
-    record { dpc = a.0; pc = e.1; gpr = a.1; spr = a.2 }
+    performed e.0 v e.1 s
 
 -- The sizes of loads and stores, in bytes
 abbrev pub load_size : LoadKind → ℕ
@@ -174,14 +177,9 @@ illegal w = (reading w).0 == 23
 
 -- Size and effective address of a load or store
 unfoldable pub access : Effect → Option (ℕ × ℕ)
-access (does.Put n x) = none
-access (does.PutSpecial n x) = none
-access (does.Sum n x o) = none
 access (does.Load k n a) = some (load_size k, a)
 access (does.Store k a x) = some (store_size k, a)
-access (does.Trap z) = none
-access does.Return = none
-access does.Nothing = none
+access e = none
 
 -- An address that is not a multiple of a size
 abbrev pub unaligned : ℕ → ℕ → Bool
@@ -193,11 +191,5 @@ askew e = elim (access e) [ some p ↦ unaligned p.0 p.1 | none ↦ false ]
 
 -- movi2s to MODE of a value other than 0
 unfoldable pub mode_set : Effect → Bool
-mode_set (does.Put n x) = false
 mode_set (does.PutSpecial n x) = n == MODE && not (x == 0)
-mode_set (does.Sum n x o) = false
-mode_set (does.Load k n a) = false
-mode_set (does.Store k a x) = false
-mode_set (does.Trap z) = false
-mode_set does.Return = false
-mode_set does.Nothing = false
+mode_set e = false

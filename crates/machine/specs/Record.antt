@@ -1,7 +1,9 @@
 -- Document 01, "The run card": the tests of the refusal table that concern a record, by their numbers.
-use Rattle.std.specs.Prelude.{ℕ, zero, suc, ◌+◌, ◌-◌, ◌*◌, ◌/◌, Bool, false, not, ◌&&◌, ◌||◌, List, [], ◌∷◌, replicate, ◌==◌, nat_le, nat_lt, slice_index}
+use Rattle.std.specs.Prelude.{ℕ, zero, suc, ◌+◌, ◌-◌, ◌*◌, ◌/◌, Bool, false, not, ◌&&◌, ◌||◌, List, [], ◌∷◌, replicate, ◌==◌, nat_le, nat_lt, slice_index, Result, Ok, Err}
 use Rattle.machine.specs.declared.Machine.{Machine}
 use Rattle.machine.specs.declared.Region.{Region}
+use Rattle.machine.specs.declared.Refusal.{Refusal}
+use Rattle.machine.specs.declared.Refusal.TheVariants.{WrongLength, TooShort, WrongMark, WrongVersion, ReservedSet, WrongCount, WrongSize, UnalignedStart, PastMemory, Overlap, NotZero, OverLimit}
 use Rattle.words.specs.Fields.{pick}
 use Rattle.machine.specs.Effects.{one_of, thirteen, unaligned, MODE, State}
 
@@ -82,7 +84,30 @@ state_of m = record { dpc = m.dpc; pc = m.pc; gpr = m.gpr; spr = m.spr }
 abbrev pub with_state : Machine → State → Machine
 with_state m s = record { code = m.code; «data» = m.«data»; limit = m.limit; dpc = s.dpc; pc = s.pc; gpr = s.gpr; spr = s.spr }
 
+-- The numbers of the refusals; 0 where nothing is refused
+abbrev pub refusal_no : Refusal → ℕ
+refusal_no WrongLength = 1
+refusal_no TooShort = 2
+refusal_no WrongMark = 3
+refusal_no WrongVersion = 4
+refusal_no ReservedSet = 5
+refusal_no WrongCount = 6
+refusal_no WrongSize = 7
+refusal_no UnalignedStart = 8
+refusal_no PastMemory = 9
+refusal_no Overlap = 10
+refusal_no NotZero = 11
+refusal_no OverLimit = 12
+
+abbrev pub refused_no : Result (Unit {0}) Refusal → ℕ
+refused_no (Ok u) = 0
+refused_no (Err r) = refusal_no r
+
 -- A table of tests, each with its answer: the answer of the first that holds, and d where none does
 abbrev pub first : {A : Type 0} → List (Bool × A) → A → A
 first [] d = d
 first (t ∷ ts) d = pick t.0 t.1 (first ts d)
+
+-- Tests 8 to 11, which a loaded card and a checked record are put to alike
+abbrev pub regions_tests : Machine → List (Bool × ℕ)
+regions_tests m = (unaligned_start_lem m, 8) ∷ (past_memory_lem m, 9) ∷ (overlap m, 10) ∷ (not_zero_lem m, 11) ∷ []

@@ -2,30 +2,41 @@
 // request to memory.
 #![tactic(auto)]
 
-ghost use Rattle.std.specs.Prelude.{◌≡◌};
-ghost use Rattle.machine.specs.Effects.{meaning, applied};
-ghost use Rattle.machine.specs.Record.{zeros};
+ghost use Rattle.std.specs.Prelude.{◌≡◌, ◌+◌, ◌*◌};
+ghost use Rattle.machine.specs.Record.{holds, zeros, refusal_no, state_of, with_state as with_state_lem};
 
 mod effects;
 pub mod refusals;
 mod registers;
 pub mod sizes;
 
-use arithmetic::{compare, high_of, sext_of, shift};
-use effects::{address, also, branch, compute, put};
-use registers::{value, write, write_special};
-use std::num::wrapping_add_u32;
-use words::{Instruction, LoadKind, StoreKind};
+use words::{LoadKind, StoreKind};
 
 // A region of `words` words from `start` on.
-#[derive(Clone, Copy)]
+#[derive(Clone, Copy, Debug, PartialEq, Eq)]
 pub struct Region {
     pub start: u32,
     pub words: u32,
 }
 
+impl Region {
+    // The address past the region, as a whole number.
+    pub(crate) fn end(self) -> u64
+        ensures { result ≡ self.start + 4 * self.words }
+    {
+        self.start as u64 + 4 * (self.words as u64)
+    }
+
+    // Whether the region holds an address.
+    pub fn contains(self, address: u32) -> bool
+        ensures { result ≡ holds self address }
+    {
+        self.start <= address && (address as u64) < self.end()
+    }
+}
+
 // A machine: its two regions, its step limit, the counters DPC and PC', and the general and the special registers.
-#[derive(Clone, Copy)]
+#[derive(Clone, Copy, Debug, PartialEq, Eq)]
 pub struct Machine {
     pub code: Region,
     pub data: Region,
@@ -34,6 +45,41 @@ pub struct Machine {
     pub pc: u32,
     pub gpr: [u32; 32],
     pub spr: [u32; 32],
+}
+
+// The counters DPC and PC' and the registers: what a step changes of a machine. The record has them as fields of its own, since
+// it goes by value and holds the two arrays, as a card lists them.
+#[derive(Clone, Copy, Debug, PartialEq, Eq)]
+pub struct State {
+    pub dpc: u32,
+    pub pc: u32,
+    pub gpr: [u32; 32],
+    pub spr: [u32; 32],
+}
+
+// Why a run card, or a record with its buffers, is refused, by the numbers of the refusal table.
+#[derive(Clone, Copy, Debug, PartialEq, Eq)]
+pub enum Refusal {
+    WrongLength = 1,
+    TooShort = 2,
+    WrongMark = 3,
+    WrongVersion = 4,
+    ReservedSet = 5,
+    WrongCount = 6,
+    WrongSize = 7,
+    UnalignedStart = 8,
+    PastMemory = 9,
+    Overlap = 10,
+    NotZero = 11,
+    OverLimit = 12,
+}
+
+impl Refusal {
+    pub fn number(self) -> u32
+        ensures { result ≡ refusal_no self }
+    {
+        self as u32
+    }
 }
 
 impl Machine {
@@ -65,7 +111,7 @@ impl Machine {
     pub const MODE: usize = 16;
 
     // The register that jal and jalr link in.
-    pub const LINK: u8 = 31;
+    pub const LINK: u8 = words::LINK;
 
     // The longest code and the longest data, in words.
     pub const LONGEST: u32 = 1024;
@@ -95,10 +141,35 @@ impl Machine {
             spr: [0; 32],
         }
     }
+
+    pub fn state(&self) -> State
+        ensures { result ≡ state_of self.now }
+    {
+        State {
+            dpc: self.dpc,
+            pc: self.pc,
+            gpr: self.gpr,
+            spr: self.spr,
+        }
+    }
+
+    // The record with another state: its regions and its limit stay.
+    pub fn with_state(&self, state: State) -> Machine
+        ensures { result ≡ with_state_lem self.now state }
+    {
+        let State { dpc, pc, gpr, spr } = state;
+        Machine {
+            dpc,
+            pc,
+            gpr,
+            spr,
+            ..*self
+        }
+    }
 }
 
 // What an instruction does besides moving the counters on.
-#[derive(Clone, Copy)]
+#[derive(Clone, Copy, Debug, PartialEq, Eq)]
 pub enum Effect {
     // A general register takes a value.
     Put(u8, u32),
@@ -119,100 +190,8 @@ pub enum Effect {
 }
 
 // An effect, and the next PC'.
-#[derive(Clone, Copy)]
+#[derive(Clone, Copy, Debug, PartialEq, Eq)]
 pub struct Act {
     pub effect: Effect,
     pub next: u32,
-}
-
-// What an instruction does, by PC' and the registers, in the tables' order.
-pub fn meaning(instruction: Instruction, pc: u32, gpr: &[u32; 32], spr: &[u32; 32]) -> Act
-    ensures { (result.effect, result.next) ≡ meaning instruction pc gpr.now spr.now }
-{
-    let onward = wrapping_add_u32(pc, 4);
-    match instruction {
-        Instruction::ShiftImmediate(s, rd, rs1, sa) => put(
-            rd,
-            shift(s, value(gpr, rs1), sa as u32),
-            onward,
-        ),
-        Instruction::ShiftRegister(s, rd, rs1, rs2) => put(
-            rd,
-            shift(s, value(gpr, rs1), value(gpr, rs2)),
-            onward,
-        ),
-        Instruction::Movs2i(rd, sa) => put(rd, value(spr, sa), onward),
-        Instruction::Movi2s(sa, rs1) => also(Effect::PutSpecial(sa, value(gpr, rs1)), onward),
-        Instruction::ArithmeticRegister(a, rd, rs1, rs2) => also(
-            compute(a, rd, value(gpr, rs1), value(gpr, rs2)),
-            onward,
-        ),
-        Instruction::Lhg(rd, rs1) => put(rd, high_of(value(gpr, rs1)), onward),
-        Instruction::Clr(rd) => put(rd, 0, onward),
-        Instruction::CompareRegister(k, rd, rs1, rs2) => put(
-            rd,
-            compare(k, value(gpr, rs1), value(gpr, rs2)),
-            onward,
-        ),
-        Instruction::Set(rd) => put(rd, 1, onward),
-        Instruction::J(imm) => also(Effect::Nothing, wrapping_add_u32(pc, sext_of(imm))),
-        Instruction::Jal(imm) => put(Machine::LINK, onward, wrapping_add_u32(pc, sext_of(imm))),
-        Instruction::Trap(imm) => also(Effect::Trap(imm), onward),
-        Instruction::Rfe => also(Effect::Return, value(spr, Machine::EPC as u8)),
-        Instruction::Beqz(rs1, imm) => also(Effect::Nothing, branch(value(gpr, rs1) == 0, pc, imm)),
-        Instruction::Bnez(rs1, imm) => also(Effect::Nothing, branch(value(gpr, rs1) != 0, pc, imm)),
-        Instruction::ArithmeticImmediate(a, rd, rs1, imm) => also(
-            compute(a, rd, value(gpr, rs1), sext_of(imm)),
-            onward,
-        ),
-        Instruction::Lhgi(rd, imm) => put(rd, sext_of(imm) << 16, onward),
-        Instruction::Jr(rs1) => also(Effect::Nothing, value(gpr, rs1)),
-        Instruction::Jalr(rs1) => put(Machine::LINK, onward, value(gpr, rs1)),
-        Instruction::Clri(rd) => put(rd, 0, onward),
-        Instruction::CompareImmediate(k, rd, rs1, imm) => put(
-            rd,
-            compare(k, value(gpr, rs1), sext_of(imm)),
-            onward,
-        ),
-        Instruction::Seti(rd) => put(rd, 1, onward),
-        Instruction::Load(k, rd, rs1, imm) => also(
-            Effect::Load(k, rd, address(gpr, rs1, imm)),
-            onward,
-        ),
-        Instruction::Store(k, rs1, imm, rd) => also(
-            Effect::Store(k, address(gpr, rs1, imm), value(gpr, rd)),
-            onward,
-        ),
-    }
-}
-
-// Applies an effect to the registers, `loaded` being what a load found. PC' goes into DPC, which is handed back: EDPC for rfe.
-pub fn apply(effect: Effect, loaded: u32, pc: u32, gpr: &mut [u32; 32], spr: &mut [u32; 32]) -> u32
-    ensures { (result, gpr.new, spr.new) ≡ applied effect loaded pc gpr.old spr.old }
-{
-    match effect {
-        Effect::Put(number, value) => {
-            write(gpr, number, value);
-            pc
-        }
-        Effect::PutSpecial(number, value) => {
-            write_special(spr, number, value);
-            pc
-        }
-        Effect::Sum(number, value, _) => {
-            write(gpr, number, value);
-            pc
-        }
-        Effect::Load(_, number, _) => {
-            write(gpr, number, loaded);
-            pc
-        }
-        Effect::Store(_, _, _) => pc,
-        Effect::Trap(_) => pc,
-        Effect::Return => {
-            spr[Machine::SR] = spr[Machine::ESR];
-            spr[Machine::EDPC]
-        }
-        Effect::Nothing => pc,
-    }
 }

@@ -1,107 +1,80 @@
 // The tests of a record, by their numbers in the refusal table.
-ghost use Rattle.std.specs.Prelude.{◌≡◌, ◌+◌, ◌*◌};
-ghost use Rattle.machine.specs.Record.{wrong_count_lem, unaligned_start_lem, past_memory_lem, holds, overlap, later as later_lem, idle_set_lem, not_zero_lem, over_limit_lem};
+#![tactic(auto, unfolding(crate::specs::Record::wrong_count_lem, crate::specs::Record::unaligned_start_lem, crate::specs::Record::past_memory_lem, crate::specs::Record::overlap, crate::specs::Record::not_zero_lem, crate::specs::Record::over_limit_lem))]
 
-use crate::{Machine, Region};
+ghost use Rattle.std.specs.Prelude.{◌≡◌, ◌+◌, ◌==◌, not, drop};
+ghost use Rattle.std.specs.List.{list_any};
+ghost use Rattle.machine.specs.Effects.{EMODE};
+ghost use Rattle.machine.specs.Record.{wrong_count_lem, unaligned_start_lem, past_memory_lem, overlap, not_zero_lem, over_limit_lem, first, regions_tests, refused_no};
+
+use crate::{Machine, Refusal};
 
 // 6: C is 0 or over 1,024, or D over 1,024.
-pub fn wrong_count(machine: Machine) -> bool
-    ensures { result ≡ wrong_count_lem machine }
+pub fn wrong_count(machine: &Machine) -> bool
+    ensures { result ≡ wrong_count_lem machine.now }
 {
-    let code = machine.code.words;
-    if code == 0 {
-        return true;
-    }
-    if Machine::LONGEST < code {
-        return true;
-    }
-    Machine::LONGEST < machine.data.words
+    machine.code.words == 0
+        || Machine::LONGEST < machine.code.words
+        || Machine::LONGEST < machine.data.words
 }
 
 // 8: a start is not a multiple of 4.
-pub fn unaligned_start(machine: Machine) -> bool
-    ensures { result ≡ unaligned_start_lem machine }
+pub fn unaligned_start(machine: &Machine) -> bool
+    ensures { result ≡ unaligned_start_lem machine.now }
 {
-    if machine.code.start % 4 != 0 {
-        return true;
-    }
-    machine.data.start % 4 != 0
+    machine.code.start % 4 != 0 || machine.data.start % 4 != 0
 }
 
 // 9: start + 4 x count exceeds 16,384, as whole numbers, for either region.
-pub fn past_memory(machine: Machine) -> bool
-    ensures { result ≡ past_memory_lem machine }
+pub fn past_memory(machine: &Machine) -> bool
+    ensures { result ≡ past_memory_lem machine.now }
 {
-    if Machine::MEMORY < end(machine.code) {
-        return true;
-    }
-    Machine::MEMORY < end(machine.data)
-}
-
-// The address past a region.
-fn end(region: Region) -> u64
-    ensures { result ≡ region.start + 4 * region.words }
-{
-    region.start as u64 + 4 * (region.words as u64)
+    Machine::MEMORY < machine.code.end() || Machine::MEMORY < machine.data.end()
 }
 
 // 10: some address is in both regions. Where one is, the later of the two starts is.
-pub fn overlaps(machine: Machine) -> bool
-    ensures { result ≡ overlap machine }
+pub fn overlaps(machine: &Machine) -> bool
+    ensures { result ≡ overlap machine.now }
 {
-    let start = later(machine.code.start, machine.data.start);
-    if !contains(machine.code, start) {
-        return false;
-    }
-    contains(machine.data, start)
+    let start = machine.code.start.max(machine.data.start);
+    machine.code.contains(start) && machine.data.contains(start)
 }
 
-// The later of two starts.
-fn later(a: u32, b: u32) -> u32
-    ensures { result ≡ later_lem a b }
+// 11: R0, an unused special register or MODE is not 0. The special registers past EMODE are MODE and the unused ones.
+pub fn not_zero(machine: &Machine) -> bool
+    ensures { result ≡ not_zero_lem machine.now }
 {
-    if a < b { b } else { a }
+    machine.gpr[0] != 0 || any_set(&machine.spr[Machine::EMODE + 1..])
 }
 
-// Whether a region holds an address.
-pub fn contains(region: Region, address: u32) -> bool
-    ensures { result ≡ holds region address }
+// Whether one of some registers is not 0.
+fn any_set(registers: &[u32]) -> bool
+    ensures { result ≡ list_any (λ x. not (x == 0)) registers.now }
 {
-    if address < region.start {
-        return false;
-    }
-    (address as u64) < end(region)
+    registers.iter().any(|register| *register != 0)
 }
 
 // 12: step limit over 1,000,000.
-pub fn over_limit(machine: Machine) -> bool
-    ensures { result ≡ over_limit_lem machine }
+pub fn over_limit(machine: &Machine) -> bool
+    ensures { result ≡ over_limit_lem machine.now }
 {
     Machine::MOST_STEPS < machine.limit
 }
 
-// 11: R0, an unused special register or MODE is not 0.
-pub fn not_zero(machine: Machine) -> bool
-    ensures { result ≡ not_zero_lem machine }
+// Tests 8 to 11, in the table's order: what the loader and the checker ask of a record alike.
+pub fn of_regions(machine: &Machine) -> Result<(), Refusal>
+    ensures { refused_no result ≡ first (regions_tests machine.now) 0 }
 {
-    let gpr = machine.gpr;
-    let spr = machine.spr;
-    if gpr[0] != 0 {
-        return true;
+    if unaligned_start(machine) {
+        return Err(Refusal::UnalignedStart);
     }
-    idle_set(&spr)
-}
-
-// Whether a special register past EMODE is not 0: these are MODE and the unused ones.
-fn idle_set(spr: &[u32; 32]) -> bool
-    ensures { result ≡ idle_set_lem spr.now }
-{
-    let mut n = Machine::EMODE + 1;
-    while n < 32 {
-        if spr[n] != 0 {
-            return true;
-        }
-        n += 1;
+    if past_memory(machine) {
+        return Err(Refusal::PastMemory);
     }
-    false
+    if overlaps(machine) {
+        return Err(Refusal::Overlap);
+    }
+    if not_zero(machine) {
+        return Err(Refusal::NotZero);
+    }
+    Ok(())
 }

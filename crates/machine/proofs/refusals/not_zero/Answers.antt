@@ -1,11 +1,10 @@
-use Rattle.std.proofs.Common.{eq-eqb, ne_eqb}
+use Rattle.std.proofs.Common.{◌≡◌, length, arith, eq-eqb}
+use Rattle.machine.proofs.Idle.{idle_slice}
 use Rattle.machine.specs.Record.{not_zero_lem}
 use Rattle.machine.proofs.refusals.not_zero.Goals as goal
 
-pub returns-then-gpr-ne0 : goal.returns-then-gpr-ne0
+pub returns-else-machine-ne0 : goal.returns-else-machine-ne0
 unfolding not_zero_lem
-returns-then-gpr-ne0 c = rw (ne_eqb _ _ c.if-gpr-ne0.true)
-
-pub returns : goal.returns
-unfolding not_zero_lem
-returns c = rw (eq-eqb _ _ c.if-gpr-ne0.false) c.idle_set.ensures
+returns-else-machine-ne0 c =
+    let h : length c.args.machine.now.spr ≡ 32 = omega arith in
+    rw (eq-eqb _ _ c.if-machine-ne0.false, c.any_set.ensures) (idle_slice c.args.machine.now.spr h)
