@@ -45,7 +45,6 @@ module _ (c d : Region) (code : List ℕ) (p : State × List ℕ) (k n : ℕ) (l
   stops v e z = rw left_over (sym (run_stop c d code p k (n - (k + 1)) v e z))
 
   -- As the loop leaves it, with nothing changed
-  pub stopped : (v w : ℕ) (g s ws : List ℕ) → violation c d code p.0 ≡ v → 0 < v → w ≡ told v (fetched c code p.0)
-      → g ≡ p.0.gpr → s ≡ p.0.spr → ws ≡ p.1
-      → ((v, k ∷ p.0.dpc ∷ w ∷ []), (record { dpc = p.0.dpc; pc = p.0.pc; gpr = g; spr = s }, ws)) ≡ running c d code k (n - k) p
-  stopped v w g s ws e z t eg es ew = rw (t, eg, es, ew) (stops v e z)
+  pub stopped : (v w : ℕ) (s : State) (ws : List ℕ) → violation c d code p.0 ≡ v → 0 < v → w ≡ told v (fetched c code p.0) → s ≡ p.0 → ws ≡ p.1
+      → ◌≡◌ {A = (ℕ × List ℕ) × (State × List ℕ)} ((v, k ∷ s.dpc ∷ w ∷ []), (s, ws)) (running c d code k (n - k) p)
+  stopped v w s ws e z t es ew = rw (t, es, ew) (stops v e z)

@@ -1,7 +1,6 @@
 pub mod Twenty
 pub mod Tests
 pub mod Fold
-pub mod Copied
 pub mod Retrace
 pub mod Noted
 pub mod Origins

@@ -1,6 +1,8 @@
 -- What an explanation means: the named step is the true one, the register holds what it put there, DPC is what the transfer made of it.
 use Rattle.std.proofs.Common.{◌≡◌, ℕ, zero, suc, ◌%◌, ◌<◌, ◌≤◌, Bool, true, false, not, ◌||◌, eqb, ◌⊎◌, List, [], ◌∷◌, length, get_or, set, ℤ, sym, refl, ap, ◌∙◌, inl, inr, arith, length-set, get_or-set_other, get_or-set_same, ne_eqb, eqb-true}
-use mathlib.Core.Option.{Option, none, some}
+use mathlib.Core.Option as maybe
+use mathlib.Core.Option.{none, some}
+use Rattle.std.specs.Prelude.{Option, Some, None, is_some}
 use borrow.Author.Tests.{eqb-false, not-false}
 use Rattle.words.specs.Fields.{pick, opcode, function, rs1, second, immediate16, immediate26}
 use Rattle.words.specs.Words.{form, numbered, reading}
@@ -20,6 +22,7 @@ use Rattle.machine.specs.declared.Region.{Region}
 use Rattle.machine.specs.Effects.{one_of, State, register, put, computed, meaning, applied, act, moved, illegal, access}
 use Rattle.machine.specs.Record.{first, state_of}
 use Rattle.machine.proofs.Acts.{word_reads, act_reads}
+use Rattle.checker.specs.declared.At.{At}
 use Rattle.checker.specs.declared.Explanation.{Explanation}
 use Rattle.checker.specs.declared.Explanation.TheVariants as because
 use Rattle.checker.specs.declared.Source.{Source}
@@ -29,29 +32,13 @@ use Rattle.checker.specs.declared.touches.Turn.TheVariants.{On, Taken, By}
 use Rattle.checker.specs.Checks.{admits, foreign, fetched, violation, next, found}
 use Rattle.checker.specs.declared.Verdict.{Verdict}
 use Rattle.checker.specs.Runs.{after, verdict_answer, run_refusal, taking, runs}
-use Rattle.checker.specs.Seven.{target, turn, before, word_of, writes, last_writer, source_of, led, addressed, explanation, explaining}
-use Rattle.checker.proofs.Noted.{led_by}
+use Rattle.checker.specs.Seven.{target, turn, before, word_of, place_of, writes, last_writer, source_of, led, addressed, explanation, explaining}
+use Rattle.checker.proofs.Noted.{led_from}
 use Rattle.checker.proofs.Retrace.{after_last}
 use Rattle.checker.proofs.Tests.{Passes, passes}
 use Rattle.checker.proofs.Theorems.{Fine, violation_only, outcome_unique}
 
 -- ---- The named step is the true one
-
--- The values of a source, 0 where it has none
-abbrev name_of : Source → ℕ
-name_of from.Card = 0
-name_of from.Zero = 1
-name_of (from.Step j x w) = suc (suc j)
-
-abbrev place_of : Source → ℕ
-place_of from.Card = 0
-place_of from.Zero = 0
-place_of (from.Step j x w) = x
-
-abbrev word_in : Source → ℕ
-word_in from.Card = 0
-word_in from.Zero = 0
-word_in (from.Step j x w) = w
 
 module _ (c d : Region) (code : List ℕ) (p : State × List ℕ) where
   -- No step from step j to before step k wrote register r
@@ -73,53 +60,46 @@ module _ (c d : Region) (code : List ℕ) (p : State × List ℕ) where
       by true q = n (rw (eqb-true i k q) at e)
       by false q = let z : i ≡ k → ⊥ = eqb-false i k q in h i l (omega arith) e
 
-  writer : (r k j x w : ℕ) → last_writer c d code p r k ≡ from.Step j x w → Writer r k j x w
+  writer : (r k : ℕ) (a : At) → last_writer c d code p r k ≡ from.Step a → Writer r k a.step a.dpc a.word
   unfolding last_writer
-  writer r zero j x w e = let z = ap name_of e in absurd (omega arith)
-  writer r (suc k) j x w e = by (eqb (writes c d code p k) r) refl e (writer r k j x w)
+  writer r zero a e = cc
+  writer r (suc k) a e = by (eqb (writes c d code p k) r) refl e (writer r k a)
     where
-      by : (t : Bool) → eqb (writes c d code p k) r ≡ t → pick t (from.Step k (before c d code p k).dpc (word_of c d code p k)) (last_writer c d code p r k) ≡ from.Step j x w
-          → (last_writer c d code p r k ≡ from.Step j x w → Writer r k j x w) → Writer r (suc k) j x w
+      by : (t : Bool) → eqb (writes c d code p k) r ≡ t → pick t (from.Step (place_of c d code p k)) (last_writer c d code p r k) ≡ from.Step a
+          → (last_writer c d code p r k ≡ from.Step a → Writer r k a.step a.dpc a.word) → Writer r (suc k) a.step a.dpc a.word
       by true q f rest =
-          let n : suc (suc k) ≡ suc (suc j) = ap name_of f in
-          let s : j ≡ k = omega arith in
-          record {
-            earlier = omega arith;
-            wrote = rw s (eqb-true (writes c d code p k) r q);
-            place = rw s (sym (ap place_of f));
-            word = rw s (sym (ap word_in f));
-            last = λ i l u g. absurd (omega arith);
-          }
+          let s : place_of c d code p k ≡ a = cc in
+          rw (← s) (record { earlier = omega arith; wrote = eqb-true (writes c d code p k) r q; place = refl; word = refl; last = λ i l u g. absurd (omega arith) })
       by false q f rest =
           let h = rest f in
           let l = h.earlier in
-          record { earlier = omega arith; wrote = h.wrote; place = h.place; word = h.word; last = unwritten_more r (suc j) k (eqb-false (writes c d code p k) r q) h.last }
+          record { earlier = omega arith; wrote = h.wrote; place = h.place; word = h.word; last = unwritten_more r (suc a.step) k (eqb-false (writes c d code p k) r q) h.last }
 
   unwritten : (r k : ℕ) → last_writer c d code p r k ≡ from.Card → Unwritten r 0 k
   unfolding last_writer
   unwritten r zero e = λ i l u g. absurd (omega arith)
   unwritten r (suc k) e = by (eqb (writes c d code p k) r) refl e (unwritten r k)
     where
-      by : (t : Bool) → eqb (writes c d code p k) r ≡ t → pick t (from.Step k (before c d code p k).dpc (word_of c d code p k)) (last_writer c d code p r k) ≡ from.Card
+      by : (t : Bool) → eqb (writes c d code p k) r ≡ t → pick t (from.Step (place_of c d code p k)) (last_writer c d code p r k) ≡ from.Card
           → (last_writer c d code p r k ≡ from.Card → Unwritten r 0 k) → Unwritten r 0 (suc k)
-      by true q f rest = let n = ap name_of f in absurd (omega arith)
+      by true q f rest = cc
       by false q f rest = unwritten_more r 0 k (eqb-false (writes c d code p k) r q) (rest f)
 
   no_zero : (r k : ℕ) → last_writer c d code p r k ≡ from.Zero → ⊥
   unfolding last_writer
-  no_zero r zero e = let n = ap name_of e in absurd (omega arith)
+  no_zero r zero e = cc
   no_zero r (suc k) e = by (eqb (writes c d code p k) r) e (no_zero r k)
     where
-      by : (t : Bool) → pick t (from.Step k (before c d code p k).dpc (word_of c d code p k)) (last_writer c d code p r k) ≡ from.Zero
+      by : (t : Bool) → pick t (from.Step (place_of c d code p k)) (last_writer c d code p r k) ≡ from.Zero
           → (last_writer c d code p r k ≡ from.Zero → ⊥) → ⊥
-      by true f rest = let n = ap name_of f in absurd (omega arith)
+      by true f rest = cc
       by false f rest = rest f
 
   -- What each source of a register says
   abbrev pub True : ℕ → ℕ → Source → Type 0
   True r k from.Card = (r % 32 ≡ 0 → ⊥) × Unwritten (r % 32) 0 k
   True r k from.Zero = r % 32 ≡ 0
-  True r k (from.Step j x w) = (r % 32 ≡ 0 → ⊥) × Writer (r % 32) k j x w
+  True r k (from.Step a) = (r % 32 ≡ 0 → ⊥) × Writer (r % 32) k a.step a.dpc a.word
 
   pub true_source : (r k : ℕ) → True r k (source_of c d code p r k)
   unfolding source_of
@@ -129,7 +109,7 @@ module _ (c d : Region) (code : List ℕ) (p : State × List ℕ) where
       by true q s e = eqb-true (r % 32) 0 q
       by false q from.Card e = rw e (eqb-false (r % 32) 0 q, unwritten (r % 32) k e)
       by false q from.Zero e = absurd (no_zero (r % 32) k e)
-      by false q (from.Step j x w) e = rw e (eqb-false (r % 32) 0 q, writer (r % 32) k j x w e)
+      by false q (from.Step a) e = rw e (eqb-false (r % 32) 0 q, writer (r % 32) k a e)
 
 -- ---- The register holds what the named step put there
 
@@ -242,7 +222,7 @@ module _ (c d : Region) (code : List ℕ) (p : State × List ℕ) where
   abbrev pub Holds : ℕ → ℕ → Source → Type 0
   Holds r k from.Card = register (before c d code p k).gpr r ≡ register p.0.gpr r
   Holds r k from.Zero = register (before c d code p k).gpr r ≡ register (before c d code p k).gpr 0
-  Holds r k (from.Step j x w) = register (before c d code p k).gpr r ≡ puts j
+  Holds r k (from.Step a) = register (before c d code p k).gpr r ≡ puts a.step
 
   pub holds_source : (r k : ℕ) → length p.0.gpr ≡ 32 → Holds r k (source_of c d code p r k)
   unfolding register after
@@ -251,11 +231,11 @@ module _ (c d : Region) (code : List ℕ) (p : State × List ℕ) where
       by : (s : Source) → True c d code p r k s → Holds r k s
       by from.Card t = kept_until (r % 32) t.0 0 k t.1 (omega arith)
       by from.Zero t = rw t
-      by (from.Step j x w) t =
+      by (from.Step a) t =
           let b = t.1.earlier in
-          kept_until (r % 32) t.0 (suc j) k t.1.last (omega arith)
-          ∙ ap (λ (g : List ℕ). get_or g (r % 32) 0) (registers j)
-          ∙ applied_put _ _ _ _ (r % 32) t.0 _ (length_before j l) t.1.wrote
+          kept_until (r % 32) t.0 (suc a.step) k t.1.last (omega arith)
+          ∙ ap (λ (g : List ℕ). get_or g (r % 32) 0) (registers a.step)
+          ∙ applied_put _ _ _ _ (r % 32) t.0 _ (length_before a.step l) t.1.wrote
 
 -- ---- DPC is what the transfer made of it
 
@@ -415,29 +395,35 @@ module _ (c d : Region) (code : List ℕ) (p : State × List ℕ) where
     pub word : w ≡ word_of c d code p j
 
   -- What each explanation says of step k
-  abbrev pub Tells : ℕ → Explanation → Type 0
-  Tells k because.None = Unit {0}
-  Tells k (because.Register n s) = (n ≡ rs1 (word_of c d code p k)) × True c d code p n k s × Holds c d code p n k s
-  Tells k because.Card = ((k ≡ 0) × ((before c d code p k).dpc ≡ p.0.dpc)) ⊎ ((k ≡ 1) × ((before c d code p k).dpc ≡ p.0.pc))
-  Tells k because.RanOn = (j : ℕ) × (k ≡ suc j) × ((before c d code p k).dpc ≡ plus (before c d code p j).dpc 4)
-  Tells k (because.Transfer j x w) = Transfer k j x w × ((z : ℤ) × ((before c d code p k).dpc ≡ plus (before c d code p j).pc (sext z)))
-  Tells k (because.Jr j x w n s) =
-      Transfer k j x w × ((before c d code p k).dpc ≡ register (before c d code p j).gpr n) × True c d code p n j s × Holds c d code p n j s
+  abbrev pub TellsOf : ℕ → Explanation → Type 0
+  TellsOf k (because.Register n s) = (n ≡ rs1 (word_of c d code p k)) × True c d code p n k s × Holds c d code p n k s
+  TellsOf k because.Card = ((k ≡ 0) × ((before c d code p k).dpc ≡ p.0.dpc)) ⊎ ((k ≡ 1) × ((before c d code p k).dpc ≡ p.0.pc))
+  TellsOf k because.RanOn = (j : ℕ) × (k ≡ suc j) × ((before c d code p k).dpc ≡ plus (before c d code p j).dpc 4)
+  TellsOf k (because.Transfer a) = Transfer k a.step a.dpc a.word × ((z : ℤ) × ((before c d code p k).dpc ≡ plus (before c d code p a.step).pc (sext z)))
+  TellsOf k (because.Jr a n s) =
+      Transfer k a.step a.dpc a.word
+      × ((before c d code p k).dpc ≡ register (before c d code p a.step).gpr n)
+      × True c d code p n a.step s
+      × Holds c d code p n a.step s
+
+  abbrev pub Tells : ℕ → Option Explanation → Type 0
+  Tells k None = Unit {0}
+  Tells k (Some e) = TellsOf k e
 
   module _ (l : length p.0.gpr ≡ 32) where
-    led_tells : (k : ℕ) → Fine c d code k p → Tells k (led c d code p k)
+    led_tells : (k : ℕ) → Fine c d code k p → TellsOf k (led c d code p k)
     unfolding led after
     led_tells zero f = inl (refl, refl)
     led_tells (suc zero) f = inr (refl, dpc_old 0 (f 0 (omega arith)))
     led_tells (suc (suc j)) f = by (turn (word_of c d code p j) (before c d code p j).gpr) (leads_word j (f j (omega arith)))
       where
         by : (t : Turn) → Leads t (act (word_of c d code p j) (before c d code p j)).1 (before c d code p j).pc (before c d code p j).gpr
-            → Tells (suc (suc j)) (led_by c d code p t j)
+            → TellsOf (suc (suc j)) (led_from c d code p t j)
         by On h = (suc j, refl, dpc_made j f ∙ h ∙ ap (λ (x : ℕ). plus x 4) (sym (dpc_old j (f j (omega arith)))))
         by Taken h = (record { two_before = refl; place = refl; word = refl }, (h.0, dpc_made j f ∙ h.1))
         by (By n) h = (record { two_before = refl; place = refl; word = refl }, dpc_made j f ∙ h, true_source c d code p n j, holds_source c d code p n j l)
 
-    addressed_tells : (k : ℕ) → Tells k (addressed c d code p k)
+    addressed_tells : (k : ℕ) → TellsOf k (addressed c d code p k)
     unfolding addressed
     addressed_tells k = (refl, true_source c d code p _ k, holds_source c d code p _ k l)
 
@@ -446,46 +432,27 @@ module _ (c d : Region) (code : List ℕ) (p : State × List ℕ) where
     unfolding explanation
     tells v k f = by (one_of v (21 ∷ 22 ∷ [])) (one_of v (25 ∷ 26 ∷ []))
       where
-        by : (a b : Bool) → Tells k (first ((a, led c d code p k) ∷ (b, addressed c d code p k) ∷ []) because.None)
+        by : (a b : Bool) → Tells k (first ((a, Some (led c d code p k)) ∷ (b, Some (addressed c d code p k)) ∷ []) None)
         by true b = led_tells k f
         by false true = addressed_tells k
         by false false = tt
 
   -- ---- Each of 21, 22, 25 and 26 has an explanation, and nothing else has
 
-  abbrev pub given : Explanation → Bool
-  given because.None = false
-  given (because.Register n s) = true
-  given because.Card = true
-  given because.RanOn = true
-  given (because.Transfer j x w) = true
-  given (because.Jr j x w n s) = true
-
-  led_given : (k : ℕ) → given (led c d code p k) ≡ true
-  unfolding led
-  led_given zero = refl
-  led_given (suc zero) = refl
-  led_given (suc (suc j)) = by (turn (word_of c d code p j) (before c d code p j).gpr)
-    where
-      by : (t : Turn) → given (led_by c d code p t j) ≡ true
-      by On = refl
-      by Taken = refl
-      by (By n) = refl
-
-  pub exactly_four : (v k : ℕ) → given (explanation c d code p v k) ≡ one_of v (21 ∷ 22 ∷ 25 ∷ 26 ∷ [])
-  unfolding explanation addressed
+  pub exactly_four : (v k : ℕ) → is_some (explanation c d code p v k) ≡ one_of v (21 ∷ 22 ∷ 25 ∷ 26 ∷ [])
+  unfolding explanation
   exactly_four v k = by (eqb v 21) (eqb v 22) (eqb v 25) (eqb v 26)
     where
-      by : (x y u w : Bool) → given (first ((x || (y || false), led c d code p k) ∷ (u || (w || false), addressed c d code p k) ∷ []) because.None) ≡ (x || (y || (u || (w || false))))
-      by true y u w = led_given k
-      by false true u w = led_given k
+      by : (x y u w : Bool) → is_some (first ((x || (y || false), Some (led c d code p k)) ∷ (u || (w || false), Some (addressed c d code p k)) ∷ []) None) ≡ (x || (y || (u || (w || false))))
+      by true y u w = refl
+      by false true u w = refl
       by false false true w = refl
       by false false false true = refl
       by false false false false = refl
 
 -- ---- The address of a load or store is RS1 and an immediate
 
-abbrev pub AtBase : ℕ → List ℕ → Option (ℕ × ℕ) → Type 0
+abbrev pub AtBase : ℕ → List ℕ → maybe.Option (ℕ × ℕ) → Type 0
 AtBase w g none = Unit {0}
 AtBase w g (some x) = (z : ℤ) × (x.1 ≡ plus (register g (rs1 w)) (sext z))
 
@@ -565,6 +532,6 @@ run_tells m code ws v k x w l z e = by (run_refusal m (length code) (length ws))
 
 -- ---- Two results that meet the promise of a run are equal
 
-pub run_unique : (v w : Verdict) (m n : Machine) (ws xs : List ℕ) (a b : Explanation) (o : (ℕ × List ℕ) × Machine × List ℕ) (x : Explanation)
+pub run_unique : (v w : Verdict) (m n : Machine) (ws xs : List ℕ) (a b : Option Explanation) (o : (ℕ × List ℕ) × Machine × List ℕ) (x : Option Explanation)
     → ◌≡◌ (verdict_answer v, m, ws) o → a ≡ x → ◌≡◌ (verdict_answer w, n, xs) o → b ≡ x → (v ≡ w) × (m ≡ n) × (ws ≡ xs) × (a ≡ b)
 run_unique v w m n ws xs a b o x e f g h = let u = outcome_unique v w m n ws xs o e g in (u.0, u.1, u.2, f ∙ sym h)

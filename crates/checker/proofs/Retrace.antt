@@ -1,5 +1,5 @@
 -- The steps of a run taken once more: the state they lead to, and the last writer of each register.
-use Rattle.std.proofs.Common.{◌≡◌, ℕ, zero, suc, ◌+◌, ◌%◌, ◌<◌, Bool, true, false, eqb, List, [], ◌∷◌, length, get_or, set, replicate, sym, refl, ap, ◌∙◌, add-one, arith, get_or-set_other, get_or-set_same, eq-eqb, eqb-true}
+use Rattle.std.proofs.Common.{◌≡◌, ℕ, zero, suc, ◌+◌, ◌%◌, ◌<◌, Bool, true, false, eqb, List, [], ◌∷◌, length, get_or, set, replicate, sym, refl, ap, ◌∙◌, add-one, Option, Some, None, arith, get_or-set_other, get_or-set_same, eq-eqb, eqb-true}
 use mathlib.Core.Option.{none, some}
 use borrow.Author.Tests.{eqb-false}
 use lib.ListN.{get_or-replicate}
@@ -10,9 +10,10 @@ use Rattle.words.specs.Words.{reading}
 use Rattle.words.specs.declared.Instruction.{Instruction}
 use Rattle.machine.specs.Effects.{State, act, meaning}
 use Rattle.machine.proofs.Acts.{act_reads, act_illegal}
+use Rattle.checker.specs.declared.At.{At}
 use Rattle.checker.specs.Checks.{fetched, violation, next}
 use Rattle.checker.specs.Runs.{running, after}
-use Rattle.checker.specs.Seven.{target, before, writes, last_writer}
+use Rattle.checker.specs.Seven.{target, place_of, writes, last_writer}
 use Rattle.checker.specs.Inner.{noted_of}
 use Rattle.checker.proofs.Fold.{run_on, run_end}
 
@@ -80,29 +81,28 @@ module _ (c d : Region) (code : List ℕ) (p : State × List ℕ) where
     one_taken = ap (λ (o : (ℕ × List ℕ) × (State × List ℕ)). get_or o.0.1 0 0) one_step
 
   -- What is noted after n steps
-  abbrev pub Notes : List ℕ → List ℕ → ℕ → Type 0
-  Notes steps places n = (k : ℕ) → 0 < k → k < 32 → noted_of c code steps places k ≡ last_writer c d code p k n
+  abbrev pub Notes : List (Option At) → ℕ → Type 0
+  Notes ws n = (k : ℕ) → 0 < k → k < 32 → noted_of ws k ≡ last_writer c d code p k n
 
-  pub notes_none : Notes (replicate 32 0) (replicate 32 0) 0
+  pub notes_none : Notes (replicate 32 None) 0
   unfolding last_writer
-  notes_none k z l = rw (get_or-replicate {A = ℕ} 32 k 0 0 l)
+  notes_none k z l = rw (get_or-replicate {A = Option At} 32 k None None l)
 
-  notes_more : (n t : ℕ) (steps places : List ℕ) → length steps ≡ 32 → length places ≡ 32 → t < 32 → t ≡ writes c d code p n
-      → Notes steps places n → Notes (set steps t (n + 1)) (set places t (before c d code p n).dpc) (n + 1)
+  notes_more : (n t : ℕ) (ws : List (Option At)) → length ws ≡ 32 → t < 32 → t ≡ writes c d code p n
+      → Notes ws n → Notes (set ws t (Some (place_of c d code p n))) (suc n)
   unfolding last_writer
-  notes_more n t steps places ls lp b w h k z l = by (eqb t k) refl
+  notes_more n t ws l b w h k z g = by (eqb t k) refl
     where
-      by : (u : Bool) → eqb t k ≡ u → noted_of c code (set steps t (n + 1)) (set places t (before c d code p n).dpc) k ≡ last_writer c d code p k (n + 1)
+      by : (u : Bool) → eqb t k ≡ u → noted_of (set ws t (Some (place_of c d code p n))) k ≡ last_writer c d code p k (suc n)
       by true e =
           let f : t ≡ k = eqb-true t k e in
-          rw (sym f, add-one n, get_or-set_same steps t (suc n) 0 (omega arith), get_or-set_same places t (before c d code p n).dpc 0 (omega arith), sym w, eq-eqb t t refl)
+          rw (sym f, get_or-set_same ws t (Some (place_of c d code p n)) None (omega arith), sym w, eq-eqb t t refl)
       by false e =
           let f : t ≡ k → ⊥ = eqb-false t k e in
-          rw (add-one n, get_or-set_other steps t k (suc n) 0 (λ (g : k ≡ t). f (sym g)), get_or-set_other places t k (before c d code p n).dpc 0 (λ (g : k ≡ t). f (sym g)), sym w, e) (h k z l)
+          rw (get_or-set_other ws t k (Some (place_of c d code p n)) None (λ (q : k ≡ t). f (sym q)), sym w, e) (h k z g)
 
   -- Step n taken, from the state x
-  pub notes_on : (n t : ℕ) (steps places : List ℕ) (x : State × List ℕ) → x ≡ after c d code n p → length steps ≡ 32 → length places ≡ 32 → t < 32
-      → t ≡ target (act (fetched c code x.0) x.0).0 → Notes steps places n → Notes (set steps t (n + 1)) (set places t x.0.dpc) (n + 1)
-  notes_on n t steps places x e ls lp b w h =
-      rw (ap (λ (y : State × List ℕ). y.0.dpc) e)
-      (notes_more n t steps places ls lp b (w ∙ ap (λ (y : State × List ℕ). target (act (fetched c code y.0) y.0).0) e) h)
+  pub notes_on : (n t : ℕ) (ws : List (Option At)) (x : State × List ℕ) → x ≡ after c d code n p → length ws ≡ 32 → t < 32
+      → t ≡ target (act (fetched c code x.0) x.0).0 → Notes ws n → Notes (set ws t (Some (record { step = n; dpc = x.0.dpc; word = fetched c code x.0 }))) (n + 1)
+  notes_on n t ws x e l b w h =
+      rw (e, add-one n) (notes_more n t ws l b (w ∙ ap (λ (y : State × List ℕ). target (act (fetched c code y.0) y.0).0) e) h)

@@ -10,12 +10,15 @@ use Rattle.machine.specs.declared.Region.{Region}
 use Rattle.words.specs.Fields.{pick}
 use Rattle.words.specs.Words.{reading}
 use Rattle.words.specs.declared.Instruction.{Instruction}
-use Rattle.machine.specs.Effects.{State, illegal, access, act, meaning, applied, moved, askew, mode_set}
+use Rattle.machine.specs.Effects.{State, illegal, access, act, meaning, performed, moved, askew, mode_set, unaligned}
 use Rattle.machine.specs.Record.{holds, word_at, first}
 use Rattle.machine.proofs.Acts.{act_reads, legal_not}
 use Rattle.machine.proofs.Regions.{holds_in, holds_out}
-use Rattle.checker.specs.Checks.{outside, admits, foreign, fetched, table, violation, found, left, next}
+use Rattle.checker.specs.declared.Test.{Test}
+use Rattle.checker.specs.declared.Test.TheVariants.{Misaligned, Outside, Illegal, Foreign, Askew, Beyond, Mode}
 use Rattle.checker.specs.Inner.{Offset}
+use Rattle.checker.specs.Checks.{outside, admits, foreign, test_no, fetched, table, violation, found, left, next}
+use Rattle.checker.specs.Runs.{told}
 
 -- A load or store that is not outside the region has an address in it
 pub load_inside : (d : Region) (e : Effect) (k : LoadKind) (n a : ℕ) → e ≡ does.Load k n a → outside d e ≡ false → holds d a ≡ true
@@ -44,6 +47,16 @@ pub foreign_admits : (w : ℕ) (i : Instruction) → reading w ≡ (0, some i) �
 unfolding foreign
 foreign_admits w i e = rw (e, foreign)
 
+-- A test's number is not 0
+pub test_positive : (t : Test) → 0 < test_no t
+test_positive Misaligned = omega arith
+test_positive Outside = omega arith
+test_positive Illegal = omega arith
+test_positive Foreign = omega arith
+test_positive Askew = omega arith
+test_positive Beyond = omega arith
+test_positive Mode = omega arith
+
 -- The tests of a step in order, each where the earlier ones hold nothing against it
 module _ (c d : Region) (code : List ℕ) (s : State) where
   pub stop_21 : (s.dpc % 4 ≡ 0 → ⊥) → violation c d code s ≡ 21
@@ -53,6 +66,18 @@ module _ (c d : Region) (code : List ℕ) (s : State) where
   pub stop_22 : s.dpc % 4 ≡ 0 → holds c s.dpc ≡ false → violation c d code s ≡ 22
   unfolding violation
   stop_22 a f = rw (eq-eqb (s.dpc % 4) 0 a, f)
+
+  -- What stops a step before its word is fetched
+  pub stop_early : (t : Test) → first ((unaligned 4 s.dpc, 21) ∷ (not (holds c s.dpc), 22) ∷ []) 0 ≡ test_no t
+      → (violation c d code s ≡ test_no t) × (0 ≡ told (test_no t) (fetched c code s))
+  unfolding violation
+  stop_early t e = by (eqb (s.dpc % 4) 0) refl (holds c s.dpc) refl e
+    where
+      by : (u : Bool) → eqb (s.dpc % 4) 0 ≡ u → (h : Bool) → holds c s.dpc ≡ h → first ((not u, 21) ∷ (not h, 22) ∷ []) 0 ≡ test_no t
+          → (violation c d code s ≡ test_no t) × (0 ≡ told (test_no t) (fetched c code s))
+      by false p h q f = rw (← f) (rw p, refl)
+      by true p false q f = rw (← f) (rw (p, q), refl)
+      by true p true q f = let z = test_positive t in absurd (omega arith)
 
   module _ (a : s.dpc % 4 ≡ 0) (h : holds c s.dpc ≡ true) where
     pub stop_23 : reading (fetched c code s) ≡ (23, none) → violation c d code s ≡ 23
@@ -73,21 +98,19 @@ module _ (c d : Region) (code : List ℕ) (s : State) where
       unfolding violation
       tests_left r x q = rw (eq-eqb (s.dpc % 4) 0 a, h, legal_not w i e, foreign_admits w i e, r, act_reads w s i e, q)
 
-      -- A step taken, from what its parts answer: effect x and next PC' n; what a load found and the data v, ws'; DPC and registers t, g, p
-      pub taken : (ws : List ℕ) (x : Effect) (n v t : ℕ) (ws' g p : List ℕ)
-          → (x, n) ≡ meaning i s.pc s.gpr s.spr → v ≡ found d ws x → ws' ≡ left d ws x
-          → (t, g, p) ≡ applied x v s.pc s.gpr s.spr
-          → (record { dpc = t; pc = n; gpr = g; spr = p }, ws') ≡ next c d code (s, ws)
+      -- A step taken, from what its parts answer: effect x and next PC' n; what a load found and the data v, ws'; the state s'
+      pub taken : (ws : List ℕ) (x : Effect) (n v : ℕ) (s' : State) (ws' : List ℕ)
+          → (x, n) ≡ meaning i s.pc s.gpr s.spr → v ≡ found d ws x → ws' ≡ left d ws x → s' ≡ performed x v n s
+          → (s', ws') ≡ next c d code (s, ws)
       unfolding next moved
-      taken ws x n v t ws' g p m l w' a' =
-          rw (← (m ∙ sym (act_reads w s i e)), ← l, ← w', ← a')
+      taken ws x n v s' ws' m l w' a = rw (← (m ∙ sym (act_reads w s i e)), ← l, ← w', a)
 
--- The tests of an effect: what their number tells
-pub effect_number : (p q r : Bool) (n : ℕ) → n ≡ first ((p, 25) ∷ (q, 26) ∷ (r, 27) ∷ []) 0 → (n ≡ 0 → ⊥) → 24 < n
-effect_number true q r n e z = omega arith
-effect_number false true r n e z = omega arith
-effect_number false false true n e z = omega arith
-effect_number false false false n e z = absurd (z e)
+-- The test of an effect: what its number tells
+pub effect_number : (p q r : Bool) (t : Test) → test_no t ≡ first ((p, 25) ∷ (q, 26) ∷ (r, 27) ∷ []) 0 → 24 < test_no t
+effect_number true q r t e = omega arith
+effect_number false true r t e = omega arith
+effect_number false false true t e = omega arith
+effect_number false false false t e = let z = test_positive t in absurd (omega arith)
 
 pub none_broken : (p q r : Bool) → ◌≡◌ {A = ℕ} (first ((p, 25) ∷ (q, 26) ∷ (r, 27) ∷ []) 0) 0 → (p ≡ false) × (q ≡ false) × (r ≡ false)
 none_broken true q r e = absurd (omega arith)

@@ -1,11 +1,14 @@
 -- What a run is, over the definitions: its steps, its first violation, and what it leaves.
-use Rattle.std.proofs.Common.{◌≡◌, ℕ, zero, suc, ◌+◌, ◌<◌, ◌≤◌, false, ◌⊎◌, List, [], ◌∷◌, length, get_or, sym, refl, ap, ◌∙◌, inl, inr, add-zero, arith}
+use Rattle.std.proofs.Common.{◌≡◌, ℕ, zero, suc, ◌+◌, ◌<◌, ◌≤◌, false, eqb, ◌⊎◌, List, [], ◌∷◌, length, get_or, sym, refl, ap, ◌∙◌, inl, inr, add-zero, arith}
 use Rattle.machine.specs.declared.Machine.{Machine}
 use Rattle.machine.specs.declared.Region.{Region}
 use Rattle.machine.specs.Effects.{State, act}
-use Rattle.machine.specs.Record.{not_zero_lem, state_of}
+use Rattle.machine.specs.Record.{not_zero_lem, state_of, first}
+use Rattle.machine.proofs.Refused.{refusal_decides}
 use Rattle.machine.proofs.Quiet.{Quiet, ReadsZero, quiet_moved, quiet_record, record_quiet, quiet_reads}
-use Rattle.checker.specs.Checks.{fetched, violation, next, found}
+use Rattle.checker.specs.declared.Test.{Test}
+use Rattle.checker.specs.declared.Test.TheVariants.{Misaligned, Outside, Illegal, Foreign, Askew, Beyond, Mode}
+use Rattle.checker.specs.Checks.{test_no, fetched, violation, next, found}
 use Rattle.checker.specs.Runs.{running, told, after, taking, verdict_answer}
 use Rattle.checker.specs.declared.Verdict.{Verdict}
 use Rattle.checker.specs.declared.Verdict.TheVariants.{Refused, Accepted, Violation}
@@ -139,17 +142,38 @@ value i o q e = ap (λ (r : ℕ × List ℕ). get_or r.1 i 0) e
 first_of : (o q : ℕ × List ℕ) → o ≡ q → o.0 ≡ q.0
 first_of o q e = ap (λ (r : ℕ × List ℕ). r.0) e
 
+-- A test by its number
+test_of : ℕ → Test
+test_of n = first ((eqb n 21, Misaligned) ∷ (eqb n 22, Outside) ∷ (eqb n 23, Illegal) ∷ (eqb n 24, Foreign) ∷ (eqb n 25, Askew) ∷ (eqb n 26, Beyond) ∷ []) Mode
+
+test_again : (t : Test) → test_of (test_no t) ≡ t
+unfolding test_of
+test_again Misaligned = refl
+test_again Outside = refl
+test_again Illegal = refl
+test_again Foreign = refl
+test_again Askew = refl
+test_again Beyond = refl
+test_again Mode = refl
+
+test_decides : (t u : Test) → test_no t ≡ test_no u → t ≡ u
+test_decides t u e = sym (test_again t) ∙ ap test_of e ∙ test_again u
+
 pub verdict_decides : (v w : Verdict) → verdict_answer v ≡ verdict_answer w → v ≡ w
-verdict_decides (Refused n) (Refused m) e = ap Refused (first_of _ _ e)
+verdict_decides (Refused n) (Refused m) e = ap Refused (refusal_decides n m (first_of _ _ e))
 verdict_decides (Refused n) (Accepted k) e = let z = values _ _ e in absurd (omega arith)
-verdict_decides (Refused n) (Violation v k d w) e = let z = values _ _ e in absurd (omega arith)
+verdict_decides (Refused n) (Violation v) e = let z = values _ _ e in absurd (omega arith)
 verdict_decides (Accepted k) (Refused m) e = let z = values _ _ e in absurd (omega arith)
 verdict_decides (Accepted k) (Accepted j) e = ap Accepted (value 0 _ _ e)
-verdict_decides (Accepted k) (Violation v j d w) e = let z = values _ _ e in absurd (omega arith)
-verdict_decides (Violation v k d w) (Refused m) e = let z = values _ _ e in absurd (omega arith)
-verdict_decides (Violation v k d w) (Accepted j) e = let z = values _ _ e in absurd (omega arith)
-verdict_decides (Violation v k d w) (Violation v' k' d' w') e =
-    let p = first_of _ _ e in let q = value 0 _ _ e in let r = value 1 _ _ e in let s = value 2 _ _ e in rw (p, q, r, s)
+verdict_decides (Accepted k) (Violation v) e = let z = values _ _ e in absurd (omega arith)
+verdict_decides (Violation v) (Refused m) e = let z = values _ _ e in absurd (omega arith)
+verdict_decides (Violation v) (Accepted j) e = let z = values _ _ e in absurd (omega arith)
+verdict_decides (Violation v) (Violation v') e =
+    let p = test_decides v.test v'.test (first_of _ _ e) in
+    let q = value 0 _ _ e in
+    let r = value 1 _ _ e in
+    let s = value 2 _ _ e in
+    rw (p, q, r, s)
 
 -- The promise of step and run is an equation of this form
 pub outcome_unique : (v w : Verdict) (m n : Machine) (ws xs : List ℕ) (o : (ℕ × List ℕ) × Machine × List ℕ)

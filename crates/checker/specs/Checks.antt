@@ -8,6 +8,8 @@ use Rattle.machine.specs.declared.Effect.TheVariants as does
 use Rattle.machine.specs.declared.Region.{Region}
 use Rattle.machine.specs.Effects.{one_of, State, act, moved, illegal, access, unaligned, askew, mode_set}
 use Rattle.machine.specs.Record.{holds, word_at, first}
+use Rattle.checker.specs.declared.Test.{Test}
+use Rattle.checker.specs.declared.Test.TheVariants.{Misaligned, Outside, Illegal, Foreign, Askew, Beyond, Mode}
 
 -- ---- The assembler machine runs only: lw, sw, movs2i, movi2s, add, sub, slli, srli, addi, lhgi, andi, ori, xori, sne, sgr, sge, beqz, bnez, jal, jr
 
@@ -58,6 +60,16 @@ table c d code s =
     ∷ (outside d e, 26)
     ∷ (mode_set e, 27)
     ∷ []
+
+-- The number of each test
+abbrev pub test_no : Test → ℕ
+test_no Misaligned = 21
+test_no Outside = 22
+test_no Illegal = 23
+test_no Foreign = 24
+test_no Askew = 25
+test_no Beyond = 26
+test_no Mode = 27
 
 -- The number of the first test that the step would break, 0 where it breaks none
 unfoldable pub violation : Region → Region → List ℕ → State → ℕ

@@ -1,86 +1,112 @@
 -- What the private functions of the checked step and of the explanation promise each other, over the definitions of Checks and Seven.
-use Rattle.std.specs.Prelude.{◌≡◌, ℕ, zero, suc, ◌-◌, ◌*◌, ◌%◌, ◌<◌, ◌≤◌, Bool, true, false, not, ◌&&◌, List, [], ◌∷◌, length, ◌==◌, slice_index}
-use Rattle.words.specs.Fields.{pick}
+use Rattle.std.specs.Prelude.{◌≡◌, ℕ, suc, ◌-◌, ◌*◌, ◌%◌, ◌<◌, ◌≤◌, true, false, not, ◌&&◌, List, [], ◌∷◌, length, ◌==◌, slice_index, slice_index_or, Option, Some, None, Result, Ok, Err}
+use Rattle.words.specs.Fields.{pick, rs1}
 use Rattle.machine.specs.declared.Machine.{Machine}
 use Rattle.machine.specs.declared.Region.{Region}
-use Rattle.machine.specs.Effects.{State, MODE, act}
+use Rattle.machine.specs.Effects.{State, MODE, act, unaligned}
 use Rattle.machine.specs.Record.{holds, first, state_of, word_at}
-use Rattle.checker.specs.declared.checked.Moved.{Moved}
-use Rattle.checker.specs.declared.checked.Moved.TheVariants.{On, Stopped}
-use Rattle.checker.specs.Checks.{fetched, violation, next}
+use Rattle.checker.specs.declared.Test.{Test}
+use Rattle.checker.specs.declared.checked.Stop.{Stop}
+use Rattle.checker.specs.Checks.{test_no, fetched, violation, next}
 use Rattle.checker.specs.declared.running.Ran.{Ran}
-use Rattle.checker.specs.Runs.{told, verdict_answer, running, after}
+use Rattle.checker.specs.Runs.{told, verdict_answer, running}
 use Rattle.checker.specs.declared.Verdict.{Verdict}
 use Rattle.checker.specs.declared.Verdict.TheVariants.{Refused, Accepted, Violation}
+use Rattle.checker.specs.declared.At.{At}
 use Rattle.checker.specs.declared.Source.{Source}
 use Rattle.checker.specs.declared.Source.TheVariants as from
+use Rattle.checker.specs.declared.Explanation.{Explanation}
+use Rattle.checker.specs.declared.Explanation.TheVariants as because
 use Rattle.checker.specs.declared.retracing.Retraced.{Retraced}
-use Rattle.checker.specs.Seven.{target, before, writes, last_writer}
+use Rattle.checker.specs.declared.touches.Turn.TheVariants as turns
+use Rattle.checker.specs.Seven.{target, turn, before, place_of, writes, last_writer}
 
 -- A region lies in its list
 abbrev pub Room : Region → List ℕ → Type 0
 Room r ws = r.words ≤ length ws
 
+-- The regions of a record lie in their lists
+abbrev pub Rooms : Machine → List ℕ → List ℕ → Type 0
+Rooms m code ws = Room m.code code × Room m.«data» ws
+
 -- How far into a region an address lies, in bytes; as far as the region's end or farther where it lies outside
 abbrev pub Offset : Region → ℕ → ℕ → Type 0
 Offset r a n = (n < 4 * r.words → (holds r a ≡ true) × (n ≡ a - r.start)) × (4 * r.words ≤ n → holds r a ≡ false)
 
--- A step that was taken, with the general register that it wrote, or stopped with nothing changed
-abbrev pub Stepped : Region → Region → List ℕ → ℕ → ℕ → List ℕ → List ℕ → List ℕ → Moved → List ℕ → List ℕ → List ℕ → Type 0
-Stepped c d code dpc pc g p ws (On dpc' pc' r) g' p' ws' =
-    let s : State = record { dpc = dpc; pc = pc; gpr = g; spr = p } in
-    (violation c d code s ≡ 0)
-    × ((record { dpc = dpc'; pc = pc'; gpr = g'; spr = p' }, ws') ≡ next c d code (s, ws))
-    × (r ≡ target (act (fetched c code s) s).0)
-Stepped c d code dpc pc g p ws (Stopped n w) g' p' ws' =
-    let s : State = record { dpc = dpc; pc = pc; gpr = g; spr = p } in
-    (violation c d code s ≡ n) × (0 < n) × (w ≡ told n (fetched c code s)) × (g' ≡ g) × (p' ≡ p) × (ws' ≡ ws)
+-- The word that is fetched, or the first of tests 21 and 22 that stops it
+abbrev pub Fetches : Region → ℕ → List ℕ → Result ℕ Stop → Type 0
+Fetches c a code (Ok w) = (a % 4 ≡ 0) × (holds c a ≡ true) × (w ≡ word_at c code a)
+Fetches c a code (Err x) = (first ((unaligned 4 a, 21) ∷ (not (holds c a), 22) ∷ []) 0 ≡ test_no x.test) × (x.word ≡ 0)
 
--- Tests 25 and 26 of an address, and test 27 of a special register and its value
-abbrev pub access_number : Bool → Region → ℕ → ℕ
-access_number t r a = first ((t, 25) ∷ (not (holds r a), 26) ∷ []) 0
+-- A step that was taken, with the general register that it wrote, or stopped with nothing changed
+abbrev pub Stepped : Machine → List ℕ → State → List ℕ → Result ℕ Stop → State → List ℕ → Type 0
+Stepped m code s ws (Ok r) s' ws' =
+    (violation m.code m.«data» code s ≡ 0)
+    × (◌≡◌ {A = State × List ℕ} (s', ws') (next m.code m.«data» code (s, ws)))
+    × (r ≡ target (act (fetched m.code code s) s).0)
+Stepped m code s ws (Err x) s' ws' =
+    (violation m.code m.«data» code s ≡ test_no x.test)
+    × (x.word ≡ told (test_no x.test) (fetched m.code code s))
+    × (s' ≡ s)
+    × (ws' ≡ ws)
+
+-- The number of the test that is broken, 0 where none is
+abbrev pub broken_no : Result Unit Test → ℕ
+broken_no (Ok u) = 0
+broken_no (Err t) = test_no t
+
+-- Tests 25 and 26 of what is loaded or stored in n bytes from an address, and test 27 of a special register and its value
+abbrev pub access_number : ℕ → Region → ℕ → ℕ
+access_number n r a = first ((unaligned n a, 25) ∷ (not (holds r a), 26) ∷ []) 0
 
 abbrev pub mode_number : ℕ → ℕ → ℕ
 mode_number n x = first ((n == MODE && not (x == 0), 27) ∷ []) 0
 
 -- A run that ended: its answer, state and data are those of the definition, and the register is the one that its last step wrote
-abbrev pub Ended : Region → Region → List ℕ → ℕ → ℕ → ℕ → List ℕ → List ℕ → List ℕ → Ran → List ℕ → List ℕ → List ℕ → Type 0
-Ended c d code n dpc pc g p ws r g' p' ws' =
-    let s : State = record { dpc = dpc; pc = pc; gpr = g; spr = p } in
-    ((verdict_answer r.verdict, (record { dpc = r.dpc; pc = r.pc; gpr = g'; spr = p' }, ws')) ≡ running c d code 0 n (s, ws))
-    × ((k : ℕ) → slice_index (verdict_answer r.verdict).1 0 ≡ suc k → r.wrote ≡ writes c d code (s, ws) k)
+abbrev pub Ended : Machine → List ℕ → ℕ → State → List ℕ → Ran → State → List ℕ → Type 0
+Ended m code n s ws r s' ws' =
+    (◌≡◌ {A = (ℕ × List ℕ) × (State × List ℕ)} (verdict_answer r.verdict, (s', ws')) (running m.code m.«data» code 0 n (s, ws)))
+    × ((k : ℕ) → slice_index (verdict_answer r.verdict).1 0 ≡ suc k → r.wrote ≡ writes m.code m.«data» code (s, ws) k)
 
 -- ---- The explanation
 
--- The first n steps of a record's run break no test, and its regions lie in their lists
+-- The regions of a record lie in their lists, and the first n steps of its run break no test
 abbrev pub Passed : Machine → List ℕ → List ℕ → ℕ → Type 0
-Passed m code ws n =
-    Room m.code code
-    × Room m.«data» ws
-    × ((j : ℕ) → j < n → violation m.code m.«data» code (after m.code m.«data» code j (state_of m, ws)).0 ≡ 0)
+Passed m code ws n = Rooms m code ws × ((j : ℕ) → j < n → violation m.code m.«data» code (before m.code m.«data» code (state_of m, ws) j) ≡ 0)
 
 -- A run's verdict: a violation has its step, before which none breaks a test
 abbrev pub Answered : Machine → List ℕ → List ℕ → Verdict → Type 0
-Answered m code ws (Refused n) = ⊥
+Answered m code ws (Refused r) = Unit {0}
 Answered m code ws (Accepted k) = Unit {0}
-Answered m code ws (Violation v k d w) = Passed m code ws k
+Answered m code ws (Violation v) = Passed m code ws v.at.step
 
--- What is noted of a register's last writer: one more than its step, 0 where there is none, and its DPC
-abbrev pub noted : Region → List ℕ → ℕ → ℕ → Source
-noted c code zero dpc = from.Card
-noted c code (suc j) dpc = from.Step j dpc (word_at c code dpc)
+-- The source of a register's value, by what is noted of the registers' last writers
+abbrev pub noted : Option At → Source
+noted None = from.Card
+noted (Some a) = from.Step a
 
-abbrev pub noted_of : Region → List ℕ → List ℕ → List ℕ → ℕ → Source
-noted_of c code steps places n = noted c code (slice_index steps n) (slice_index places n)
+abbrev pub noted_of : List (Option At) → ℕ → Source
+noted_of ws n = noted (slice_index_or ws n None)
 
--- The source of a register's value, by what is noted
-abbrev pub noted_source : Region → List ℕ → List ℕ → List ℕ → ℕ → Source
-noted_source c code steps places n = pick (n % 32 == 0) from.Zero (noted_of c code steps places (n % 32))
+abbrev pub noted_source : List (Option At) → ℕ → Source
+noted_source ws n = pick (n % 32 == 0) from.Zero (noted_of ws (n % 32))
 
--- A run whose first n steps were taken again: its DPC and registers, and the last writer of each register but R0
+-- A run whose first n steps were taken again: the step that comes next, the state before it, and the last writer of each general register but R0
 abbrev pub Retraces : Machine → List ℕ → List ℕ → ℕ → Retraced → Type 0
 Retraces m code ws n r =
-    let s = before m.code m.«data» code (state_of m, ws) n in
-    (r.dpc ≡ s.dpc)
-    × (r.gpr ≡ s.gpr)
-    × ((k : ℕ) → 0 < k → k < 32 → noted_of m.code code r.steps r.places k ≡ last_writer m.code m.«data» code (state_of m, ws) k n)
+    let p : State × List ℕ = (state_of m, ws) in
+    (r.next ≡ place_of m.code m.«data» code p n)
+    × (r.state ≡ before m.code m.«data» code p n)
+    × ((k : ℕ) → 0 < k → k < 32 → noted_of r.writers k ≡ last_writer m.code m.«data» code p k n)
+
+-- What led to the second step from there, and what the address of the next step is made of, by what was retraced
+abbrev pub led_by : Retraced → Explanation
+led_by r =
+    elim (turn r.next.word r.state.gpr) [
+      | turns.On ↦ because.RanOn
+      | turns.Taken ↦ because.Transfer r.next
+      | turns.By n ↦ because.Jr r.next n (noted_source r.writers n)
+    ]
+
+abbrev pub addressed_by : Retraced → Explanation
+addressed_by r = because.Register (rs1 r.next.word) (noted_source r.writers (rs1 r.next.word))

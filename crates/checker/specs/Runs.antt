@@ -4,16 +4,16 @@ use Rattle.words.specs.Fields.{pick}
 use Rattle.machine.specs.declared.Machine.{Machine}
 use Rattle.machine.specs.declared.Region.{Region}
 use Rattle.machine.specs.Effects.{State}
-use Rattle.machine.specs.Record.{LONGEST, wrong_count_lem, unaligned_start_lem, past_memory_lem, overlap, not_zero_lem, over_limit_lem, state_of, with_state, first}
+use Rattle.machine.specs.Record.{LONGEST, wrong_count_lem, unaligned_start_lem, past_memory_lem, overlap, not_zero_lem, over_limit_lem, refusal_no, state_of, with_state, first}
 use Rattle.checker.specs.declared.Verdict.{Verdict}
 use Rattle.checker.specs.declared.Verdict.TheVariants.{Refused, Accepted, Violation}
-use Rattle.checker.specs.Checks.{fetched, violation, next}
+use Rattle.checker.specs.Checks.{test_no, fetched, violation, next}
 
 -- The paper's number and values of each answer: a refusal; accepted with the steps taken; a violation with its step, DPC and word
 abbrev pub verdict_answer : Verdict → ℕ × List ℕ
-verdict_answer (Refused n) = (n, [])
+verdict_answer (Refused r) = (refusal_no r, [])
 verdict_answer (Accepted k) = (0, k ∷ [])
-verdict_answer (Violation v k d w) = (v, k ∷ d ∷ w ∷ [])
+verdict_answer (Violation v) = (test_no v.test, v.at.step ∷ v.at.dpc ∷ v.at.word ∷ [])
 
 -- The word that a violation tells: none, written 0, for 21 and 22
 abbrev pub told : ℕ → ℕ → ℕ

@@ -1,5 +1,5 @@
 -- Document 02, request Seven: say where the bad address came from. All of it is over the machine's own steps: step j of a run from p takes the state `after` j steps.
-use Rattle.std.specs.Prelude.{ℕ, zero, suc, ◌%◌, not, List, [], ◌∷◌, ◌==◌, slice_index}
+use Rattle.std.specs.Prelude.{ℕ, zero, suc, ◌%◌, not, List, [], ◌∷◌, ◌==◌, slice_index, Option, Some, None}
 use Rattle.words.specs.Fields.{pick, opcode, rs1}
 use Rattle.machine.specs.declared.Effect.{Effect}
 use Rattle.machine.specs.declared.Effect.TheVariants as does
@@ -7,6 +7,7 @@ use Rattle.machine.specs.declared.Machine.{Machine}
 use Rattle.machine.specs.declared.Region.{Region}
 use Rattle.machine.specs.Effects.{one_of, State, act, register}
 use Rattle.machine.specs.Record.{state_of, first}
+use Rattle.checker.specs.declared.At.{At}
 use Rattle.checker.specs.declared.Source.{Source}
 use Rattle.checker.specs.declared.Source.TheVariants as from
 use Rattle.checker.specs.declared.Explanation.{Explanation}
@@ -52,10 +53,14 @@ module _ (c d : Region) (code : List ℕ) (p : State × List ℕ) where
   abbrev pub writes : ℕ → ℕ
   writes j = target (act (word_of j) (before j)).0
 
+  -- Step j with its DPC and its word
+  abbrev pub place_of : ℕ → At
+  place_of j = record { step = j; dpc = (before j).dpc; word = word_of j }
+
   -- The last step before step k that wrote register r, with its DPC and its word, or "card" if none did
   unfoldable pub last_writer : ℕ → ℕ → Source
   last_writer r zero = from.Card
-  last_writer r (suc k) = pick (writes k == r) (from.Step k (before k).dpc (word_of k)) (last_writer r k)
+  last_writer r (suc k) = pick (writes k == r) (from.Step (place_of k)) (last_writer r k)
 
   -- or "zero" for R0. A register's number is a field of five bits
   unfoldable pub source_of : ℕ → ℕ → Source
@@ -68,8 +73,8 @@ module _ (c d : Region) (code : List ℕ) (p : State × List ℕ) where
   led (suc (suc j)) =
       elim (turn (word_of j) (before j).gpr) [
         | On ↦ because.RanOn
-        | Taken ↦ because.Transfer j (before j).dpc (word_of j)
-        | By r ↦ because.Jr j (before j).dpc (word_of j) r (source_of r j)
+        | Taken ↦ because.Transfer (place_of j)
+        | By r ↦ because.Jr (place_of j) r (source_of r j)
       ]
 
   -- 25 and 26 at step k: the source of RS1 of its word
@@ -77,9 +82,9 @@ module _ (c d : Region) (code : List ℕ) (p : State × List ℕ) where
   addressed k = because.Register (rs1 (word_of k)) (source_of (rs1 (word_of k)) k)
 
   -- The explanation of violation v at step k. Other violations get none
-  unfoldable pub explanation : ℕ → ℕ → Explanation
-  explanation v k = first ((one_of v (21 ∷ 22 ∷ []), led k) ∷ (one_of v (25 ∷ 26 ∷ []), addressed k) ∷ []) because.None
+  unfoldable pub explanation : ℕ → ℕ → Option Explanation
+  explanation v k = first ((one_of v (21 ∷ 22 ∷ []), Some (led k)) ∷ (one_of v (25 ∷ 26 ∷ []), Some (addressed k)) ∷ []) None
 
 -- The explanation that a run gives with its answer: the number, and the step, which is the first of its values. No refusal, and not 0 for accepted, is among the four
-abbrev pub explaining : Machine → List ℕ → List ℕ → ℕ × List ℕ → Explanation
+abbrev pub explaining : Machine → List ℕ → List ℕ → ℕ × List ℕ → Option Explanation
 explaining m code ws o = explanation m.code m.«data» code (state_of m, ws) o.0 (slice_index o.1 0)

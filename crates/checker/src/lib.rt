@@ -2,31 +2,70 @@
 #![tactic(auto)]
 
 ghost use Rattle.std.specs.Prelude.{◌≡◌};
+ghost use Rattle.checker.specs.Checks.{test_no};
 ghost use Rattle.checker.specs.Runs.{verdict_answer, stepping, runs};
 ghost use Rattle.checker.specs.Seven.{explaining};
 
 mod admitted;
 mod because;
 mod checked;
-mod kept;
 mod refused;
 mod retracing;
 mod running;
 mod touches;
 
 use because::explain;
-use kept::copy;
-use machine::Machine;
+use machine::{Machine, Refusal};
+
+// The tests of a checked step, by their numbers.
+#[derive(Clone, Copy, Debug, PartialEq, Eq)]
+pub enum Test {
+    // DPC is not a multiple of 4.
+    Misaligned = 21,
+    // DPC lies outside the code region.
+    Outside = 22,
+    // The word is illegal.
+    Illegal = 23,
+    // The word is legal, but the assembler machine does not run it.
+    Foreign = 24,
+    // The address of a load or store is not a multiple of 4.
+    Askew = 25,
+    // The address lies outside the data region.
+    Beyond = 26,
+    // MODE takes another value than 0.
+    Mode = 27,
+}
+
+impl Test {
+    pub fn number(self) -> u32
+        ensures { result ≡ test_no self }
+    {
+        self as u32
+    }
+}
+
+// A step of a run, its DPC and its word (0 where tests 21 and 22 stop it, before the word is fetched).
+#[derive(Clone, Copy)]
+pub struct At {
+    pub step: u32,
+    pub dpc: u32,
+    pub word: u32,
+}
+
+// The first test that a run breaks, and where.
+#[derive(Clone, Copy)]
+pub struct Violation {
+    pub test: Test,
+    pub at: At,
+}
 
 // What a step or a run answers.
 #[derive(Clone, Copy)]
 pub enum Verdict {
-    // The number of the refusal.
-    Refused(u32),
+    Refused(Refusal),
     // The steps taken.
     Accepted(u32),
-    // The number of the test, the step, its DPC and its word (0 for 21 and 22).
-    Violation(u32, u32, u32, u32),
+    Violation(Violation),
 }
 
 // The verdict, and the record that is handed back.
@@ -43,62 +82,49 @@ pub enum Source {
     Card,
     // R0, which is always 0.
     Zero,
-    // The last step that wrote it, its DPC and its word.
-    Step(u32, u32, u32),
+    // The last step that wrote it.
+    Step(At),
 }
 
 // Where the bad address of a violation came from.
 #[derive(Clone, Copy)]
 pub enum Explanation {
-    // None is given: refused, accepted, or another violation than 21, 22, 25 and 26.
-    None,
     // 25 and 26: the register RS1 and its source.
     Register(u8, Source),
     // 21 and 22: the counters of the card.
     Card,
     // 21 and 22: no transfer led there.
     RanOn,
-    // 21 and 22: the taken transfer that led there, its step, its DPC and its word.
-    Transfer(u32, u32, u32),
+    // 21 and 22: the step of the taken transfer that led there.
+    Transfer(At),
     // The same of jr, with its register and that one's source.
-    Jr(u32, u32, u32, u8, Source),
+    Jr(At, u8, Source),
 }
 
-// The same, with the explanation.
+// The same, with the explanation: none where the run is refused or accepted, or breaks another test than 21, 22, 25 and 26.
 #[derive(Clone, Copy)]
 pub struct Explained {
     pub verdict: Verdict,
     pub machine: Machine,
-    pub explanation: Explanation,
+    pub explanation: Option<Explanation>,
 }
 
 // One checked step. It ignores the record's limit.
+#[tactic(auto, using(crate::proofs::Refusals::rooms))]
 pub fn step(machine: Machine, code: &[u32], words: &mut [u32]) -> Outcome
     ensures { ◌≡◌ (verdict_answer result.verdict, result.machine, words.new) (stepping machine code.now words.old) }
 {
-    let number = refused::of_step(machine, code.len(), words.len());
-    if number != 0 {
-        return Outcome {
-            verdict: Verdict::Refused(number),
-            machine,
-        };
-    }
-    running::take(machine, 1, code, words)
+    let refused = refused::of_step(&machine, code.len(), words.len());
+    running::take(refused, machine, 1, code, words)
 }
 
 // Steps until the limit or the first violation, without the explanation.
+#[tactic(auto, using(crate::proofs::Refusals::run_rooms))]
 pub fn check(machine: Machine, code: &[u32], words: &mut [u32]) -> Outcome
     ensures { ◌≡◌ (verdict_answer result.verdict, result.machine, words.new) (runs machine code.now words.old) }
 {
-    let number = refused::of_run(machine, code.len(), words.len());
-    if number != 0 {
-        return Outcome {
-            verdict: Verdict::Refused(number),
-            machine,
-        };
-    }
-    let limit = machine.limit;
-    running::take(machine, limit, code, words)
+    let refused = refused::of_run(&machine, code.len(), words.len());
+    running::take(refused, machine, machine.limit, code, words)
 }
 
 // The same, with the explanation. What that needs is found after the run, by taking its steps once more from a copy of the data.
@@ -106,21 +132,16 @@ pub fn run(machine: Machine, code: &[u32], words: &mut [u32]) -> Explained
     ensures ran { ◌≡◌ (verdict_answer result.verdict, result.machine, words.new) (runs machine code.now words.old) }
     ensures explained { result.explanation ≡ explaining machine code.now words.old (runs machine code.now words.old).0 }
 {
-    let number = refused::of_run(machine, code.len(), words.len());
-    if number != 0 {
-        return Explained {
-            verdict: Verdict::Refused(number),
-            machine,
-            explanation: Explanation::None,
-        };
-    }
-    let mut before = [0u32; Machine::WORDS];
-    copy(words, &mut before);
-    let limit = machine.limit;
-    let outcome = running::take(machine, limit, code, words);
-    let verdict = outcome.verdict;
-    let left = outcome.machine;
-    let explanation = explain(machine, verdict, code, &mut before);
+    let before = <[u32; Machine::WORDS]>::try_from(&words[..]);
+    let Outcome {
+        verdict,
+        machine: left,
+    } = check(machine, code, words);
+    let explanation = match before {
+        Ok(mut data) => explain(machine, verdict, code, &mut data),
+        // Data of another length are refused, and then nothing is explained.
+        Err(_) => None,
+    };
     Explained {
         verdict,
         machine: left,

@@ -1,19 +1,18 @@
 // The steps of a run taken once more, with the last writer of each general register noted.
-ghost use Rattle.std.specs.Prelude.{◌≡◌, ◌-◌, ◌/◌, ◌%◌, slice_set};
+ghost use Rattle.std.specs.Prelude.{◌≡◌, ◌%◌, slice_set};
 ghost use Rattle.machine.specs.Record.{word_at};
 ghost use Rattle.checker.specs.Inner.{Passed, Retraces};
 
+use crate::At;
 use crate::running::go;
-use machine::{Machine, Region};
+use machine::{Machine, Region, State};
 
-// DPC and the general registers after the steps, and of each register's last writer one more than its step (0 where there is
-// none) and its DPC.
+// The step that comes after the steps taken once more, the state before it, and the last writer of each general register.
 #[derive(Clone, Copy)]
 pub(crate) struct Retraced {
-    pub dpc: u32,
-    pub gpr: [u32; 32],
-    pub steps: [u32; 32],
-    pub places: [u32; 32],
+    pub next: At,
+    pub state: State,
+    pub writers: [Option<At>; 32],
 }
 
 // Takes the first `count` steps of a run, which break no test.
@@ -21,58 +20,44 @@ pub(crate) fn retrace(machine: Machine, count: u32, code: &[u32], words: &mut [u
     requires { Passed machine code.now words.old count }
     ensures { Retraces machine code.now words.old count result }
 {
-    let fetches = machine.code;
-    let accesses = machine.data;
-    let mut here = machine.dpc;
-    let mut next = machine.pc;
-    let mut gpr = machine.gpr;
-    let mut spr = machine.spr;
-    let mut steps = [0u32; 32];
-    let mut places = [0u32; 32];
-    let mut taken: u32 = 0;
-    while taken < count {
-        let ran = go(
-            fetches, accesses, 1, here, next, &mut gpr, &mut spr, code, words,
-        );
-        taken += 1;
-        note(ran.wrote, taken, here, &mut steps, &mut places);
-        here = ran.dpc;
-        next = ran.pc;
+    let mut state = machine.state();
+    let mut writers: [Option<At>; 32] = [None; 32];
+    for taken in 0..count {
+        let at = place_of(machine.code, taken, state.dpc, code);
+        // By the loop of a run: a second caller of the step would make every step of a run dearer (tools/cost).
+        let ran = go(&machine, 1, &mut state, code, words);
+        note(&mut writers, ran.wrote, at);
     }
     Retraced {
-        dpc: here,
-        gpr,
-        steps,
-        places,
+        next: place_of(machine.code, count, state.dpc, code),
+        state,
+        writers,
     }
 }
 
 // Notes a register's last writer. What writes none is noted of R0, whose source is always "zero".
-fn note(register: u8, step: u32, dpc: u32, steps: &mut [u32; 32], places: &mut [u32; 32])
-    ensures { (steps.new ≡ slice_set steps.old (register % 32) step) × (places.new ≡ slice_set places.old (register % 32) dpc) }
+fn note(writers: &mut [Option<At>; 32], register: u8, at: At)
+    ensures { writers.new ≡ slice_set writers.old (register % 32) (Some at) }
 {
-    let at = (register % 32) as usize;
-    steps[at] = step;
-    places[at] = dpc;
+    writers[(register % 32) as usize] = Some(at);
+}
+
+// A step with its DPC and its word, which is 0 past the list of the region.
+fn place_of(fetches: Region, step: u32, dpc: u32, code: &[u32]) -> At
+    ensures { result ≡ record { step = step; dpc = dpc; word = word_at fetches code.now dpc } }
+{
+    At {
+        step,
+        dpc,
+        word: word_at(fetches, dpc, code),
+    }
 }
 
 // The word of a region's list at an address, 0 past the list.
-pub(crate) fn word_at(region: Region, address: u32, code: &[u32]) -> u32
+#[tactic(auto, unfolding(machine::specs::Record::word_at))]
+fn word_at(region: Region, address: u32, code: &[u32]) -> u32
     ensures { result ≡ word_at region code.now address }
 {
-    let at = index(region.start, address);
-    if at < code.len() {
-        return code[at];
-    }
-    0
-}
-
-// The place of an address in the list of a region, 0 where the address lies before it.
-fn index(start: u32, address: u32) -> usize
-    ensures { result ≡ (address - start) / 4 }
-{
-    if address < start {
-        return 0;
-    }
-    ((address - start) / 4) as usize
+    let at = (address.saturating_sub(region.start) / 4) as usize;
+    code.get(at).copied().unwrap_or(0)
 }

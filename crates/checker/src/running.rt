@@ -1,97 +1,78 @@
-// The loop of a run, on the parts of a record: the record is taken apart once, and the step works on its arrays in place.
+// The loop of a run, on the counters and registers of a record: the step works on them in place.
 ghost use Rattle.std.specs.Prelude.{◌≡◌};
-ghost use Rattle.checker.specs.Inner.{Room, Ended};
+ghost use Rattle.machine.specs.Record.{refused_no};
+ghost use Rattle.checker.specs.Inner.{Rooms, Ended};
 ghost use Rattle.checker.specs.Runs.{verdict_answer, taking};
 
-use crate::checked::{Moved, step};
-use crate::{Outcome, Verdict};
-use machine::{Machine, Region};
+use crate::checked::step;
+use crate::{At, Outcome, Verdict, Violation};
+use machine::{Machine, Refusal, State};
 
-// The verdict and the counters that a run leaves, and the general register that its last step wrote (0 for none).
+// The verdict of a run, and the general register that its last step wrote (0 for none: R0 is never written).
 #[derive(Clone, Copy)]
 pub(crate) struct Ran {
     pub verdict: Verdict,
-    pub dpc: u32,
-    pub pc: u32,
     pub wrote: u8,
 }
 
+// Takes at most `limit` steps of a state in the regions of a record.
 pub(crate) fn go(
-    fetches: Region,
-    accesses: Region,
+    machine: &Machine,
     limit: u32,
-    dpc: u32,
-    pc: u32,
-    gpr: &mut [u32; 32],
-    spr: &mut [u32; 32],
+    state: &mut State,
     code: &[u32],
     words: &mut [u32],
 ) -> Ran
-    requires { Room fetches code.now × Room accesses words.old }
-    ensures { Ended fetches accesses code.now limit dpc pc gpr.old spr.old words.old result gpr.new spr.new words.new }
+    requires { Rooms machine.now code.now words.old }
+    ensures { Ended machine.now code.now limit state.old words.old result state.new words.new }
 {
-    let mut taken: u32 = 0;
-    let mut here = dpc;
-    let mut next = pc;
-    let mut wrote: u8 = 0;
-    while taken < limit {
-        let moved = step(fetches, accesses, here, next, gpr, spr, code, words);
-        match moved {
-            Moved::On(d, p, r) => {
-                here = d;
-                next = p;
-                wrote = r;
-                taken += 1;
-            }
-            Moved::Stopped(number, word) => {
+    let mut wrote = 0;
+    for taken in 0..limit {
+        match step(machine, state, code, words) {
+            Ok(register) => wrote = register,
+            Err(stop) => {
+                let violation = Violation {
+                    test: stop.test,
+                    at: At {
+                        step: taken,
+                        dpc: state.dpc,
+                        word: stop.word,
+                    },
+                };
                 return Ran {
-                    verdict: Verdict::Violation(number, taken, here, word),
-                    dpc: here,
-                    pc: next,
+                    verdict: Verdict::Violation(violation),
                     wrote,
                 };
             }
         }
     }
     Ran {
-        verdict: Verdict::Accepted(taken),
-        dpc: here,
-        pc: next,
+        verdict: Verdict::Accepted(limit),
         wrote,
     }
 }
 
-// Takes at most `limit` steps of a record that is not refused: taken apart, run and put together again.
-pub(crate) fn take(machine: Machine, limit: u32, code: &[u32], words: &mut [u32]) -> Outcome
-    requires { Room machine.code code.now × Room machine.«data» words.old }
-    ensures { ◌≡◌ (verdict_answer result.verdict, result.machine, words.new) (taking 0 limit machine code.now words.old) }
+// Takes at most `limit` steps of a record. Refused, nothing changes.
+pub(crate) fn take(
+    refused: Result<(), Refusal>,
+    machine: Machine,
+    limit: u32,
+    code: &[u32],
+    words: &mut [u32],
+) -> Outcome
+    requires { refused_no refused ≡ 0 → Rooms machine code.now words.old }
+    ensures { ◌≡◌ (verdict_answer result.verdict, result.machine, words.new) (taking (refused_no refused) limit machine code.now words.old) }
 {
-    let fetches = machine.code;
-    let accesses = machine.data;
-    let mut gpr = machine.gpr;
-    let mut spr = machine.spr;
-    let ran = go(
-        fetches,
-        accesses,
-        limit,
-        machine.dpc,
-        machine.pc,
-        &mut gpr,
-        &mut spr,
-        code,
-        words,
-    );
-    let verdict = ran.verdict;
+    if let Err(refusal) = refused {
+        return Outcome {
+            verdict: Verdict::Refused(refusal),
+            machine,
+        };
+    }
+    let mut state = machine.state();
+    let ran = go(&machine, limit, &mut state, code, words);
     Outcome {
-        verdict,
-        machine: Machine {
-            code: fetches,
-            data: accesses,
-            limit: machine.limit,
-            dpc: ran.dpc,
-            pc: ran.pc,
-            gpr,
-            spr,
-        },
+        verdict: ran.verdict,
+        machine: machine.with_state(state),
     }
 }

@@ -1,16 +1,44 @@
-use Rattle.std.proofs.Common.{◌≡◌, arith}
-use Rattle.checker.proofs.Noted.{none_told}
-use Rattle.machine.specs.Record.{state_of}
+use Rattle.std.proofs.Common.{◌≡◌, ap, refl, inl, inr, ◌∙◌, Some, None}
+use Rattle.checker.specs.declared.Verdict.{Verdict}
+use Rattle.checker.specs.declared.Verdict.TheVariants as a
+use Rattle.checker.specs.declared.Violation.{Violation}
+use Rattle.checker.specs.Inner.{Answered}
+use Rattle.checker.specs.Runs.{verdict_answer}
+use Rattle.checker.specs.Seven.{explanation, explaining}
+use Rattle.checker.proofs.Noted.{addressed_told, led_start, led_told, refused_none}
 use Rattle.checker.proofs.because.explain.Goals as goal
 
-pub explain_at-requires : goal.explain_at-requires
-explain_at-requires c = rw c.in-Violation.is at c.requires
+pub returns-in_default : goal.returns-in_default
+unfolding explanation
+returns-in_default c = by c.args.verdict c.in_default.not-Violation c.requires
+  where
+    by : (v : Verdict) → ((x : Violation) → v ≡ a.Violation x → ⊥) → Answered c.args.machine c.args.code.now c.args.words.now v
+        → None ≡ explaining c.args.machine c.args.code.now c.args.words.now (verdict_answer v)
+    by (a.Refused r) z t = refused_none c.args.machine c.args.code.now c.args.words.now r
+    by (a.Accepted k) z t = refl
+    by (a.Violation x) z t = absurd (z x refl)
 
-pub returns-in-Refused : goal.returns-in-Refused
-returns-in-Refused c = absurd (rw c.in-Refused.is at c.requires)
+pub returns-in-Some : goal.returns-in-Some
+unfolding explanation
+returns-in-Some c =
+    let e = c.led.ensures ∙ led_told c.args.machine c.args.code.now c.args.words.now _ _ c.retrace.result c.in-Some.ensures c.retrace.ensures in
+    elim c.in-Misaligned.is [ inl h ↦ rw (c.in-Violation.is, h) (ap Some e) | inr h ↦ rw (c.in-Violation.is, h) (ap Some e) ]
 
-pub returns-in-Accepted : goal.returns-in-Accepted
-returns-in-Accepted c = rw c.in-Accepted.is (none_told c.args.machine.code c.args.machine.«data» c.args.code.now (state_of c.args.machine, c.args.words.now) 0 _ (λ (e : 0 ≡ 21). absurd (omega arith)) (λ (e : 0 ≡ 22). absurd (omega arith)) (λ (e : 0 ≡ 25). absurd (omega arith)) (λ (e : 0 ≡ 26). absurd (omega arith)))
+pub returns-in-None : goal.returns-in-None
+unfolding explanation
+returns-in-None c =
+    let e = led_start c.args.machine c.args.code.now c.args.words.now _ c.in-None.ensures in
+    elim c.in-Misaligned.is [ inl h ↦ rw (c.in-Violation.is, h) (ap Some e) | inr h ↦ rw (c.in-Violation.is, h) (ap Some e) ]
 
-pub returns-in-Violation : goal.returns-in-Violation
-returns-in-Violation c = rw c.in-Violation.is c.explain_at.ensures
+pub returns-in-Askew : goal.returns-in-Askew
+unfolding explanation
+returns-in-Askew c =
+    let e = c.addressed.ensures ∙ addressed_told c.args.machine c.args.code.now c.args.words.now _ c.retrace-in-Askew.result c.retrace-in-Askew.ensures in
+    elim c.in-Askew.is [ inl h ↦ rw (c.in-Violation.is, h) (ap Some e) | inr h ↦ rw (c.in-Violation.is, h) (ap Some e) ]
+
+pub returns-in-Illegal : goal.returns-in-Illegal
+unfolding explanation
+returns-in-Illegal c = elim c.in-Illegal.is [
+  | inl h ↦ rw (c.in-Violation.is, h)
+  | inr q ↦ elim q [ inl h ↦ rw (c.in-Violation.is, h) | inr h ↦ rw (c.in-Violation.is, h) ]
+]

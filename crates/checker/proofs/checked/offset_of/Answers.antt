@@ -3,4 +3,4 @@ use Rattle.checker.proofs.Tests.{offset_wraps}
 use Rattle.checker.proofs.checked.offset_of.Goals as goal
 
 pub returns : goal.returns
-returns c = offset_wraps c.args.region c.args.address c.wrapping_sub_u64.result (omega arith) (omega arith) (omega arith) (omega arith) c.wrapping_sub_u64.ensures.value
+returns c = offset_wraps c.args.region c.args.address _ (omega arith) (omega arith) (omega arith) (omega arith) (omega arith)

@@ -1,42 +1,67 @@
+use Rattle.std.proofs.Common.{◌≡◌, ℕ, ◌<◌, Ok, sym, refl, ap, ◌∙◌, arith, le-ltb}
+use mathlib.Core.Option.{some}
+use Rattle.std.proofs.lemmas.Result.{err_from_is_err_and}
 use Rattle.checker.proofs.Retrace.{writes_by}
-use Rattle.std.proofs.Common.{ℕ, ◌<◌, sym, refl, ap, ◌∙◌, arith, le-ltb}
-use Rattle.checker.proofs.Tests.{effect_number, none_broken, offset_word}
-use Rattle.checker.proofs.Tests.{stop_21, stop_22, stop_23, stop_24, tests_left, taken}
-use Rattle.checker.specs.Checks.{outside}
+use Rattle.checker.proofs.Tests.{effect_number, none_broken, stop_early, stop_23, stop_24, tests_left, taken}
+use Rattle.checker.specs.Checks.{test_no, outside, violation}
+use Rattle.checker.specs.Inner.{Fetches, broken_no}
 use Rattle.machine.specs.Effects.{askew, mode_set}
 use Rattle.machine.specs.Record.{word_at}
 use Rattle.machine.specs.declared.Effect.{Effect}
 use Rattle.words.specs.Words.{reading, reading_answer}
 use Rattle.checker.proofs.checked.step.Goals as goal
+use Rattle.checker.proofs.checked.step.Goals.{After-read, In-Some, After-first_broken}
 
-pub returns-then-fetched-ne0 : goal.returns-then-fetched-ne0
-unfolding word_at
-returns-then-fetched-ne0 c = (stop_21 _ _ _ _ c.if-fetched-ne0.true, omega arith, refl, refl, refl, refl)
+-- The word is the one at DPC, where tests 21 and 22 hold nothing against it
+fetches : (c : After-read) → Fetches c.args.machine.now.code c.args.state.now.dpc c.args.code.now (Ok c.in_ok-word.word)
+fetches c = rw c.in_ok-word.was at c.fetch.ensures
 
-pub returns-then-fetches-offset : goal.returns-then-fetches-offset
-unfolding word_at
-returns-then-fetches-offset c = (stop_22 _ _ _ _ c.if-fetched-ne0.false (c.offset_of-offset.ensures.1 c.if-fetches-offset.true), omega arith, refl, refl, refl, refl)
+reads : (c : After-read) → reading (word_at c.args.machine.now.code c.args.code.now c.args.state.now.dpc) ≡ reading_answer c.read.result
+reads c = ap reading (sym (fetches c).2) ∙ sym c.read.ensures
 
-pub bounds-code-at : goal.bounds-code-at
-unfolding word_at
-bounds-code-at c = omega arith
+instruction : (c : In-Some) → reading (word_at c.args.machine.now.code c.args.code.now c.args.state.now.dpc) ≡ (0, some c.in-Some.instruction)
+instruction c = reads (goal.at.In-Some c).After-read ∙ ap reading_answer c.in-Some.is
+
+-- The step breaks the test that its effect breaks
+tests : (c : After-first_broken) → violation c.args.machine.now.code c.args.machine.now.«data» c.args.code.now c.args.state.now ≡ broken_no c.first_broken.result
+tests c =
+    let f = fetches (goal.at.After-first_broken c).After-read in
+    tests_left _ _ _ _ f.0 f.1 _ (instruction (goal.at.After-first_broken c).In-Some) (sym c.admits.ensures ∙ c.if-not-admits.false) c.meaning-effect.result.effect (ap (λ (p : Effect × ℕ). p.0) c.meaning-effect.ensures)
+    ∙ sym c.first_broken.ensures
+
+pub returns-in_err-word : goal.returns-in_err-word
+returns-in_err-word c =
+    let x = c.in_err-word.field-0.0 in
+    let e = (rw c.in_err-word.was at c.fetch.ensures) in
+    let s = stop_early c.args.machine.now.code c.args.machine.now.«data» c.args.code.now c.args.state.now x.test e.0 in
+    let h = err_from_is_err_and c.from_residual.result c.from_residual.ensures.1 in
+    rw (h.1, h.2) (s.0, e.1 ∙ s.1, refl, refl)
+
+pub returns-in_default : goal.returns-in_default
+returns-in_default c =
+    let a = (goal.at.returns-in_default c).After-read in
+    let f = fetches a in
+    (stop_23 _ _ _ _ f.0 f.1 (reads a ∙ ap reading_answer c.in_default.is), f.2, refl, refl)
 
 pub returns-then-not-admits : goal.returns-then-not-admits
-unfolding word_at
-returns-then-not-admits c = (stop_24 _ _ _ _ c.if-fetched-ne0.false (c.offset_of-offset.ensures.0 c.if-fetches-offset.false).0 _ (ap reading (sym (offset_word c.args.fetches c.args.code.now _ _ c.offset_of-offset.ensures c.if-fetches-offset.false)) ∙ sym c.read-reading.ensures ∙ ap reading_answer c.in-Legal.is) (sym c.admits.ensures ∙ c.if-not-admits.true), omega arith, offset_word c.args.fetches c.args.code.now _ _ c.offset_of-offset.ensures c.if-fetches-offset.false, refl, refl, refl)
+returns-then-not-admits c =
+    let f = fetches (goal.at.returns-then-not-admits c).After-read in
+    let i = instruction (goal.at.returns-then-not-admits c).In-Some in
+    (stop_24 _ _ _ _ f.0 f.1 _ i (sym c.admits.ensures ∙ c.if-not-admits.true), f.2, refl, refl)
 
-pub returns-then-number-ne0 : goal.returns-then-number-ne0
-unfolding word_at
-returns-then-number-ne0 c = (let k : 24 < c.first_broken-number.result = effect_number (askew c.meaning-act.result.effect) (outside c.args.accesses c.meaning-act.result.effect) (mode_set c.meaning-act.result.effect) c.first_broken-number.result c.first_broken-number.ensures c.if-number-ne0.true in (tests_left _ _ _ _ c.if-fetched-ne0.false (c.offset_of-offset.ensures.0 c.if-fetches-offset.false).0 _ (ap reading (sym (offset_word c.args.fetches c.args.code.now _ _ c.offset_of-offset.ensures c.if-fetches-offset.false)) ∙ sym c.read-reading.ensures ∙ ap reading_answer c.in-Legal.is) (sym c.admits.ensures ∙ c.if-not-admits.false) c.meaning-act.result.effect (ap (λ (p : Effect × ℕ). p.0) c.meaning-act.ensures) ∙ sym c.first_broken-number.ensures, omega arith, rw (le-ltb c.first_broken-number.result 23 (omega arith)) (offset_word c.args.fetches c.args.code.now _ _ c.offset_of-offset.ensures c.if-fetches-offset.false), refl, refl, refl))
+pub returns-in-Err : goal.returns-in-Err
+returns-in-Err c =
+    let f = fetches (goal.at.returns-in-Err c).After-read in
+    let e = tests (goal.at.returns-in-Err c).After-first_broken ∙ ap broken_no c.in-Err.is in
+    let k : 24 < test_no c.in-Err.test = effect_number (askew c.meaning-effect.result.effect) (outside c.args.machine.now.«data» c.meaning-effect.result.effect) (mode_set c.meaning-effect.result.effect) c.in-Err.test (sym (ap broken_no c.in-Err.is) ∙ c.first_broken.ensures) in
+    (e, rw (le-ltb (test_no c.in-Err.test) 23 (omega arith)) f.2, refl, refl)
+
+pub returns : goal.returns
+returns c =
+    let f = fetches (goal.at.returns c).After-read in
+    let i = instruction (goal.at.returns c).In-Some in
+    let e = tests (goal.at.returns c).After-first_broken ∙ ap broken_no c.in_default-first_broken.is in
+    (e, taken _ _ _ _ f.0 f.1 _ i _ _ _ _ _ _ c.meaning-effect.ensures c.access-loaded.ensures.0 c.access-loaded.ensures.1 c.apply.ensures, c.written.ensures ∙ writes_by _ _ _ i _ _ c.meaning-effect.ensures)
 
 pub access-loaded-requires : goal.access-loaded-requires
-unfolding word_at
-access-loaded-requires c = (c.requires.1, (none_broken (askew c.meaning-act.result.effect) (outside c.args.accesses c.meaning-act.result.effect) (mode_set c.meaning-act.result.effect) (sym c.first_broken-number.ensures ∙ c.if-number-ne0.false)).1)
-
-pub returns-in-Illegal : goal.returns-in-Illegal
-unfolding word_at
-returns-in-Illegal c = (stop_23 _ _ _ _ c.if-fetched-ne0.false (c.offset_of-offset.ensures.0 c.if-fetches-offset.false).0 (ap reading (sym (offset_word c.args.fetches c.args.code.now _ _ c.offset_of-offset.ensures c.if-fetches-offset.false)) ∙ sym c.read-reading.ensures ∙ ap reading_answer c.in-Illegal.is), omega arith, offset_word c.args.fetches c.args.code.now _ _ c.offset_of-offset.ensures c.if-fetches-offset.false, refl, refl, refl)
-
-pub returns-else-number-ne0 : goal.returns-else-number-ne0
-unfolding word_at
-returns-else-number-ne0 c = (tests_left _ _ _ _ c.if-fetched-ne0.false (c.offset_of-offset.ensures.0 c.if-fetches-offset.false).0 _ (ap reading (sym (offset_word c.args.fetches c.args.code.now _ _ c.offset_of-offset.ensures c.if-fetches-offset.false)) ∙ sym c.read-reading.ensures ∙ ap reading_answer c.in-Legal.is) (sym c.admits.ensures ∙ c.if-not-admits.false) c.meaning-act.result.effect (ap (λ (p : Effect × ℕ). p.0) c.meaning-act.ensures) ∙ sym c.first_broken-number.ensures ∙ c.if-number-ne0.false, taken _ _ _ _ c.if-fetched-ne0.false (c.offset_of-offset.ensures.0 c.if-fetches-offset.false).0 _ (ap reading (sym (offset_word c.args.fetches c.args.code.now _ _ c.offset_of-offset.ensures c.if-fetches-offset.false)) ∙ sym c.read-reading.ensures ∙ ap reading_answer c.in-Legal.is) _ _ _ _ _ _ _ _ c.meaning-act.ensures c.access-loaded.ensures.0 c.access-loaded.ensures.1 c.apply-onward.ensures, c.written.ensures ∙ writes_by _ _ _ (ap reading (sym (offset_word c.args.fetches c.args.code.now _ _ c.offset_of-offset.ensures c.if-fetches-offset.false)) ∙ sym c.read-reading.ensures ∙ ap reading_answer c.in-Legal.is) _ _ c.meaning-act.ensures)
+access-loaded-requires c = (c.requires.1, (none_broken (askew c.meaning-effect.result.effect) (outside c.args.machine.now.«data» c.meaning-effect.result.effect) (mode_set c.meaning-effect.result.effect) (sym c.first_broken.ensures ∙ ap broken_no c.in_default-first_broken.is)).1)
