@@ -10,6 +10,7 @@ use Rattle.words.specs.Fields.{pick}
 use Rattle.machine.specs.declared.Machine.{Machine}
 use Rattle.machine.specs.Record.{DOUBLE_WORDS, not_zero_lem, state_of, with_state}
 use Rattle.vamp.specs.Steps.{Vamp, Course, vstep, onward, start, refused, stepping, running}
+use Rattle.vamp.specs.Inner.{course_of}
 use Rattle.vamp.proofs.Onward.{onward_yes, onward_not, step_kept}
 
 -- What holds of the refusals and of the work holds of the call
@@ -69,17 +70,6 @@ module _ (m : Machine) (mem : List ℕ) where
     run_zero n z = rw (running, eq-eqb (length mem) DOUBLE_WORDS l, z)
 
     -- The work
-    module _ (z : not_zero_lem m ≡ false) (c : Course) where
-      pub run_works : (n : ℕ) → c ≡ onward n (start (state_of m, mem)) → (c.steps, c.answer, c.masked, with_state m c.left.0, c.left.1) ≡ running m mem n
-      unfolding running
-      run_works n e =
-          ap (λ (c : Course). (c.steps, c.answer, c.masked, with_state m c.left.0, c.left.1)) e ∙ worked
-        where
-          worked : (
-            (onward n (start (state_of m, mem))).steps,
-            (onward n (start (state_of m, mem))).answer,
-            (onward n (start (state_of m, mem))).masked,
-            with_state m (onward n (start (state_of m, mem))).left.0,
-            (onward n (start (state_of m, mem))).left.1,
-          ) ≡ running m mem n
-          worked = rw (running, eq-eqb (length mem) DOUBLE_WORDS l, z)
+    pub run_works : not_zero_lem m ≡ false → (n : ℕ) → course_of m (onward n (start (state_of m, mem))) ≡ running m mem n
+    unfolding running
+    run_works z n = rw (running, eq-eqb (length mem) DOUBLE_WORDS l, z)

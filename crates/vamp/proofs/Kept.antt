@@ -28,14 +28,8 @@ stored_length Sw mem a v = put_length 32 mem a v
 
 pub kept_length : (e : Effect) (mem : List ℕ) → length (memory_after e mem) ≡ length mem
 unfolding memory_after
-kept_length (does.Put n x) mem = refl
-kept_length (does.PutSpecial n x) mem = refl
-kept_length (does.Sum n x o) mem = refl
-kept_length (does.Load k n a) mem = refl
 kept_length (does.Store k a x) mem = stored_length k mem a x
-kept_length (does.Trap z) mem = refl
-kept_length does.Return mem = refl
-kept_length does.Nothing mem = refl
+kept_length _ mem = refl
 
 pub step_length : (x : Vamp) → length (vstep x).1.1 ≡ length x.1
 step_length x = by (eqb (vstep x).0.0 0) refl

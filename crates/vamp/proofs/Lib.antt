@@ -7,6 +7,5 @@ mod Performs
 pub mod Sequence
 mod Shifts
 mod Tests
-mod Touches
 pub mod Unique
 pub mod Zeros

@@ -67,14 +67,8 @@ module _ (mem : List ℕ) (s : State) where
 
   overflow_calm : (e : Effect) → overflowed e ≡ true → mode_set e ≡ false
   unfolding overflowed mode_set
-  overflow_calm (does.Put n x) h = refl
   overflow_calm (does.PutSpecial n x) h = absurd (false_true h)
-  overflow_calm (does.Sum n x o) h = refl
-  overflow_calm (does.Load k n a) h = refl
-  overflow_calm (does.Store k a x) h = refl
-  overflow_calm (does.Trap z) h = refl
-  overflow_calm does.Return h = refl
-  overflow_calm does.Nothing h = refl
+  overflow_calm _ h = refl
 
   still : (e : Effect) (o m : Bool) → overflowed e ≡ o → (pick (o && m) (stepped OVERFLOW) (pick o (interrupt OVERFLOW) (pick (mode_set e) mode (stepped 0)))).0 ≡ 0 → mode_set e ≡ false
   still e true m h z = overflow_calm e h

@@ -1,25 +1,24 @@
 -- What the code shifts: nothing is lost where a part lies inside a double word.
-use Prim.Native.Nat.{ℕ, ◌+◌, ◌-◌, ◌*◌, ◌/◌, ◌%◌, ◌^◌, ◌≤◌, ◌<◌}
-use mathlib.Core.Path.{◌≡◌, sym, ap, ◌∙◌}
-use native.Mathlib.Nat.{mod-lt, add-mul, lt_of_lt_of_le}
+use Prim.Native.Nat.{ℕ, suc, ◌+◌, ◌-◌, ◌*◌, ◌/◌, ◌%◌, ◌^◌, ◌≤◌, ◌<◌}
+use mathlib.Core.Path.{◌≡◌, refl, sym, ap, ◌∙◌}
+use mathlib.Core.Bool.{Bool, true, false}
+use native.Mathlib.Nat.{mod-lt, add-mul}
 use native.Mathlib.Omega.{arith}
-use lib.Pow.{pow_pos, pow_mono, shl_exact, shr-shr, split}
+use borrow.Author.Tests.{ltb-true, ltb-false}
+use lib.Dec.{ltb}
+use lib.Pow.{pow_pos, shl_exact, shr-shr, split}
+use mir.Syntax.{Width, w8, w16, w32}
+use mir.Val.{bits, hbits, to_z, of_z}
 use Rattle.words.specs.Fields.{signed}
-use Rattle.words.proofs.Signed.{signed_small, lift_is}
-use Rattle.arithmetic.specs.Rulings.{minus, sext}
-use Rattle.arithmetic.proofs.Integers.{lowered}
+use Rattle.words.proofs.Signed.{signed_low, signed_high}
+use Rattle.arithmetic.specs.Rulings.{sext}
+use Rattle.arithmetic.proofs.Integers.{sext_is}
 use Rattle.vamp.specs.Memory.{patch}
 use Rattle.vamp.proofs.Memory.{patch_below}
 
 -- The range of a part of b bits
 pub range_is : (b : ℕ) → b ≤ 32 → 1 * 2 ^ b % 2 ^ 64 ≡ 2 ^ b
 range_is b l = let p : 1 * 2 ^ b % 2 ^ 64 ≡ 1 * 2 ^ b = shl_exact 1 b 64 (omega arith) (omega arith) in omega arith
-
-pub range_pos : (b : ℕ) → b ≤ 32 → 0 < 1 * 2 ^ b % 2 ^ 64
-range_pos b l = rw (range_is b l) (pow_pos b)
-
-pub part_fits : (b y : ℕ) → b ≤ 32 → y % (1 * 2 ^ b % 2 ^ 64) < 2 ^ 32
-part_fits b y l = rw (range_is b l) (lt_of_lt_of_le (mod-lt y (pow_pos b)) (pow_mono l))
 
 -- A double word as what stands above a part, the part and what stands below it
 module _ (b k x v : ℕ) (lb : b ≤ 32) (lk : 8 * k + b ≤ 64) (lx : x < 2 ^ 64) where
@@ -45,16 +44,27 @@ module _ (b k x v : ℕ) (lb : b ≤ 32) (lk : 8 * k + b ≤ 64) (lx : x < 2 ^ 6
   unfolding patch
   patch_is = ap (λ (y : ℕ). y + x % 2 ^ (8 * k)) (add-mul (x / 2 ^ (8 * k + b) * 2 ^ b) (v % 2 ^ b) (2 ^ (8 * k)))
 
-  -- The old part can be taken away, and with the new part the double word is the one that is meant
-  pub old_inside : old * 2 ^ (8 * k) % 2 ^ 64 ≤ x
-  old_inside = let p = shifted_old in let q = laid in omega arith
-
+  -- With the new part for the old one the double word is the one that is meant
   pub patched_is : x - old * 2 ^ (8 * k) % 2 ^ 64 + new * 2 ^ (8 * k) % 2 ^ 64 ≡ patch b k x v
   patched_is = let p = shifted_old in let q = shifted_new in let r = laid in let s = patch_is in omega arith
 
   pub patched_fits : x - old * 2 ^ (8 * k) % 2 ^ 64 + new * 2 ^ (8 * k) % 2 ^ 64 < 2 ^ 64
   patched_fits = rw patched_is (patch_below b k 64 x v lx lk)
 
--- A number below 2 h, its sign extended
-pub extended_is : (h x : ℕ) → x < 2 * h → h ≤ 2 ^ 15 → minus ((x + h) % (2 * h)) h ≡ sext (signed h x)
-extended_is h x b s = ap (λ (y : ℕ). minus y h) (lift_is h x b) ∙ lowered h (signed h x) (signed_small h x b) (omega arith)
+-- A number of w bits, its sign extended
+module _ (w : Width) (x : ℕ) (fits : x < 2 ^ bits w) (halves : 2 ^ bits w ≡ 2 * 2 ^ hbits w) where
+  turned : to_z w x ≡ signed (2 ^ hbits w) x
+  turned = by (ltb x (2 ^ hbits w)) refl
+    where
+      by : (t : Bool) → ltb x (2 ^ hbits w) ≡ t → to_z w x ≡ signed (2 ^ hbits w) x
+      by true t = rw (signed_low (2 ^ hbits w) x (ltb-true x (2 ^ hbits w) t), t)
+      by false t = rw (signed_high (2 ^ hbits w) x (2 ^ bits w - suc x) (ltb-false x (2 ^ hbits w) t) (omega arith), t)
+
+  extended : of_z w32 (to_z w x) ≡ sext (signed (2 ^ hbits w) x)
+  extended = ap (of_z w32) turned ∙ sext_is (signed (2 ^ hbits w) x)
+
+pub byte_extended : (x : ℕ) → x < 2 ^ 8 → of_z w32 (to_z w8 x) ≡ sext (signed (2 ^ 7) x)
+byte_extended x l = extended w8 x l refl
+
+pub half_extended : (x : ℕ) → x < 2 ^ 16 → of_z w32 (to_z w16 x) ≡ sext (signed (2 ^ 15) x)
+half_extended x l = extended w16 x l refl

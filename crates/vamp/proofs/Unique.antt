@@ -24,15 +24,7 @@ told a =
 told_answered : (r : Answer) → told (answered r) ≡ r
 unfolding told
 told_answered says.Stepped = refl
-told_answered says.Masked = refl
-told_answered says.Misaligned = refl
-told_answered says.Illegal = refl
-told_answered says.Trap = refl
-told_answered says.Overflow = refl
-told_answered says.PastMemory = refl
-told_answered says.Mode = refl
-told_answered says.WrongLength = refl
-told_answered says.NotZero = refl
+told_answered _ = refl
 
 pub answer_decides : (r s : Answer) → answered r ≡ answered s → r ≡ s
 answer_decides r s e = sym (told_answered r) ∙ ap told e ∙ told_answered s

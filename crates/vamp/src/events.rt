@@ -1,51 +1,64 @@
-// Events 4 to 8 of a step: questions about the effect of its word.
+// The events of a step, but for the illegal word: tests of its fetch, and of the effect of its word. `Ok` is the answer of a
+// step that is taken, `Err` that of one that is not.
+#![tactic(auto, using(crate::proofs::Tests::overflow_bit), unfolding(crate::specs::Events::access_past, crate::specs::Events::overflow_masked, crate::specs::Events::overflowed, crate::specs::Events::trapped, crate::specs::Inner::access_event, crate::specs::Inner::effect_event, machine::specs::Effects::access, machine::specs::Effects::askew, machine::specs::Effects::mode_set, machine::specs::Effects::register))]
+
 ghost use Rattle.std.specs.Prelude.{not, ◌&&◌, ◌∷◌, [], ◌≡◌, eqb};
 ghost use Rattle.machine.specs.Effects.{MODE};
 ghost use Rattle.machine.specs.Record.{first};
 ghost use Rattle.vamp.specs.Events.{overflow_masked, stepped, interrupt, mode, OVERFLOW};
-ghost use Rattle.vamp.specs.Steps.{answered};
-ghost use Rattle.vamp.specs.Inner.{access_event};
+ghost use Rattle.vamp.specs.Inner.{judged, passes, access_event, effect_event};
 
 use crate::Answer;
-use machine::Machine;
+use machine::sizes::askew;
+use machine::{Effect, Machine};
 
-// A load or store at an address that may be askew.
-pub(crate) fn access(askew: bool, address: u32) -> Answer
-    ensures { answered result ≡ access_event askew address }
+// Events 4 to 8, of an effect.
+pub(crate) fn of_effect(effect: Effect, spr: &[u32; 32]) -> Result<Answer, Answer>
+    ensures { judged result ≡ passes (effect_event effect spr.now) }
 {
-    let past = Machine::MEMORY <= address as u64;
-    if askew {
-        return Answer::Misaligned;
+    match effect {
+        Effect::PutSpecial(number, value) => special(number, value),
+        Effect::Sum(_, _, beyond) => sum(beyond, spr),
+        Effect::Load(kind, _, address) => access(askew(kind, address), address),
+        Effect::Store(kind, address, _) => access(askew(kind, address), address),
+        Effect::Trap(_) => Err(Answer::Trap),
+        Effect::Put(_, _) | Effect::Return | Effect::Nothing => Ok(Answer::Stepped),
     }
-    if past {
-        return Answer::PastMemory;
-    }
-    Answer::Stepped
 }
 
-// A sum or difference that may lie beyond the words.
-pub(crate) fn sum(beyond: bool, spr: &[u32; 32]) -> Answer
-    ensures { answered result ≡ first ((beyond && overflow_masked spr.now, stepped OVERFLOW) ∷ (beyond, interrupt OVERFLOW) ∷ []) (stepped 0) }
+// Events 4 and 5, and so 1 and 2: an access at an address that may be askew.
+pub(crate) fn access(askew: bool, address: u32) -> Result<Answer, Answer>
+    ensures { judged result ≡ passes (access_event askew address) }
+{
+    if askew {
+        Err(Answer::Misaligned)
+    } else if Machine::MEMORY <= address as u64 {
+        Err(Answer::PastMemory)
+    } else {
+        Ok(Answer::Stepped)
+    }
+}
+
+// Event 7: a sum or difference that may lie beyond the words. SR bit 6 masks it where it is 0.
+fn sum(beyond: bool, spr: &[u32; 32]) -> Result<Answer, Answer>
+    ensures { judged result ≡ passes (first ((beyond && overflow_masked spr.now, stepped OVERFLOW) ∷ (beyond, interrupt OVERFLOW) ∷ []) (stepped 0)) }
 {
     if !beyond {
-        return Answer::Stepped;
+        Ok(Answer::Stepped)
+    } else if spr[Machine::SR] & Answer::OVERFLOW == 0 {
+        Ok(Answer::Masked)
+    } else {
+        Err(Answer::Overflow)
     }
-    if spr[Machine::SR] / Answer::OVERFLOW % 2 == 0 {
-        return Answer::Masked;
-    }
-    Answer::Overflow
 }
 
-// A value for a special register.
-pub(crate) fn special(number: u8, value: u32) -> Answer
-    ensures { answered result ≡ first ((eqb number MODE && not (eqb value 0), mode) ∷ []) (stepped 0) }
+// Event 8: a value for a special register.
+fn special(number: u8, value: u32) -> Result<Answer, Answer>
+    ensures { judged result ≡ passes (first ((eqb number MODE && not (eqb value 0), mode) ∷ []) (stepped 0)) }
 {
-    let at = number as usize;
-    if at != Machine::MODE {
-        return Answer::Stepped;
+    if number as usize == Machine::MODE && value != 0 {
+        Err(Answer::Mode)
+    } else {
+        Ok(Answer::Stepped)
     }
-    if value == 0 {
-        return Answer::Stepped;
-    }
-    Answer::Mode
 }

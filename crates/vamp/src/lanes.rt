@@ -1,84 +1,118 @@
 // Memory by double words: their parts of 8, 16 and 32 bits.
-ghost use Rattle.std.specs.Prelude.{false, ◌≡◌, ◌+◌, ◌*◌, ◌%◌, ◌^◌, ◌≤◌, ◌<◌, length};
-ghost use Rattle.words.specs.Fields.{signed};
-ghost use Rattle.arithmetic.specs.Rulings.{sext};
-ghost use Rattle.machine.specs.Effects.{store_size};
-ghost use Rattle.machine.specs.Record.{DOUBLE_WORDS, MEMORY};
-ghost use Rattle.vamp.specs.Memory.{part, patch, at, put, loaded, stored};
-ghost use Rattle.machine.specs.Effects.{unaligned};
+#![tactic(auto, using(crate::proofs::Memory::part_below, crate::proofs::Shifts::byte_extended, crate::proofs::Shifts::half_extended, crate::proofs::Shifts::range_is, crate::proofs::Shifts::patched_is, crate::proofs::Shifts::patched_fits), unfolding(crate::specs::Events::access_past, crate::specs::Memory::loaded, crate::specs::Memory::part, crate::specs::Memory::stored, crate::specs::Steps::found, crate::specs::Steps::memory_after, machine::specs::Effects::access, machine::specs::Effects::askew))]
 
-use arithmetic::difference;
+ghost use Rattle.std.specs.Prelude.{false, ◌≡◌, ◌+◌, ◌*◌, ◌/◌, ◌%◌, ◌≤◌, ◌<◌};
+ghost use Rattle.machine.specs.Effects.{store_size, unaligned, askew};
+ghost use Rattle.machine.specs.Record.{MEMORY};
+ghost use Rattle.vamp.specs.Events.{access_past};
+ghost use Rattle.vamp.specs.Steps.{found, memory_after};
+ghost use Rattle.vamp.specs.Memory.{part, patch, at, put, loaded, stored};
+
+use machine::{Effect, Machine};
 use words::{LoadKind, StoreKind};
 
+// Modelled memory, by double words.
+pub(crate) type Memory = [u64; Machine::DOUBLE_WORDS];
+
+// An address of modelled memory.
+#[derive(Clone, Copy)]
+pub(crate) struct Address {
+    number: u32,
+    ghost inside: { number < MEMORY },
+}
+
+impl Address {
+    pub(crate) fn of(number: u32) -> Address
+        requires { number < MEMORY }
+        ensures { result.number ≡ number }
+    {
+        Address { number }
+    }
+
+    // The index of the double word that holds its byte.
+    fn index(self) -> usize
+        ensures { result ≡ self.number / 8 }
+    {
+        (self.number / 8) as usize
+    }
+
+    // How many bits of that double word stand below its byte.
+    fn below(self) -> u32
+        ensures { result ≡ 8 * (self.number % 8) }
+    {
+        8 * (self.number % 8)
+    }
+}
+
+// What the load of an effect finds, or 0. Its store is put.
+pub(crate) fn carry(effect: Effect, memory: &mut Memory) -> u32
+    requires { (askew effect ≡ false) × (access_past effect ≡ false) }
+    ensures { (result ≡ found effect memory.old) × (memory.new ≡ memory_after effect memory.old) }
+{
+    match effect {
+        Effect::Load(kind, _, number) => load(kind, memory, Address::of(number)),
+        Effect::Store(kind, number, value) => {
+            store(kind, memory, Address::of(number), value);
+            0
+        }
+        Effect::Put(_, _)
+        | Effect::PutSpecial(_, _)
+        | Effect::Sum(_, _, _)
+        | Effect::Trap(_)
+        | Effect::Return
+        | Effect::Nothing => 0,
+    }
+}
+
 // lb and lh extend the sign, lbu and lhu by zeros.
-pub(crate) fn load(kind: LoadKind, memory: &[u64], address: u32) -> u32
-    requires { (length memory.now ≡ DOUBLE_WORDS) × (address < MEMORY) }
-    ensures { result ≡ loaded kind memory.now address }
+fn load(kind: LoadKind, memory: &Memory, address: Address) -> u32
+    ensures { result ≡ loaded kind memory.now address.number }
 {
     match kind {
-        LoadKind::Lb => extended(128, read(8, memory, address)),
-        LoadKind::Lh => extended(32768, read(16, memory, address)),
-        LoadKind::Lw => read(32, memory, address),
-        LoadKind::Lbu => read(8, memory, address),
-        LoadKind::Lhu => read(16, memory, address),
+        LoadKind::Lb => {
+            let byte = read::<8>(memory, address) as u8;
+            i32::from(byte.cast_signed()).cast_unsigned()
+        }
+        LoadKind::Lh => {
+            let half = read::<16>(memory, address) as u16;
+            i32::from(half.cast_signed()).cast_unsigned()
+        }
+        LoadKind::Lw => read::<32>(memory, address),
+        LoadKind::Lbu => read::<8>(memory, address),
+        LoadKind::Lhu => read::<16>(memory, address),
     }
 }
 
 // The low bits of a value are stored.
-pub(crate) fn store(kind: StoreKind, memory: &mut [u64], address: u32, value: u32)
-    requires { (length memory.old ≡ DOUBLE_WORDS) × (address < MEMORY) × (unaligned (store_size kind) address ≡ false) }
-    ensures { memory.new ≡ stored kind memory.old address value }
+fn store(kind: StoreKind, memory: &mut Memory, address: Address, value: u32)
+    requires { unaligned (store_size kind) address.number ≡ false }
+    ensures { memory.new ≡ stored kind memory.old address.number value }
 {
     match kind {
-        StoreKind::Sb => write(8, memory, address, value),
-        StoreKind::Sh => write(16, memory, address, value),
-        StoreKind::Sw => write(32, memory, address, value),
+        StoreKind::Sb => write::<8>(memory, address, value),
+        StoreKind::Sh => write::<16>(memory, address, value),
+        StoreKind::Sw => write::<32>(memory, address, value),
     }
 }
 
-// A number below 2 h with its sign extended: the two halves of its range change places, and half the range is taken off again.
-fn extended(h: u32, x: u32) -> u32
-    requires { (x < 2 * h) × (h ≤ 2 ^ 15) }
-    ensures { result ≡ sext (signed h x) }
+// The BITS bits at an address.
+pub(crate) fn read<const BITS: u32>(memory: &Memory, address: Address) -> u32
+    requires { BITS ≤ 32 }
+    ensures { result ≡ at BITS memory.now address.number }
 {
-    difference((x + h) % (2 * h), h)
+    let range = 1u64 << BITS;
+    ((memory[address.index()] >> address.below()) % range) as u32
 }
 
-// The b bits at an address.
-pub(crate) fn read(b: u32, memory: &[u64], address: u32) -> u32
-    requires { (length memory.now ≡ DOUBLE_WORDS) × (address < MEMORY) × (b ≤ 32) }
-    ensures { result ≡ at b memory.now address }
+// Replaces the BITS bits at an address by the low ones of a value.
+fn write<const BITS: u32>(memory: &mut Memory, address: Address, value: u32)
+    requires { (BITS ≤ 32) × (8 * (address.number % 8) + BITS ≤ 64) }
+    ensures { memory.new ≡ put BITS memory.old address.number value }
 {
-    let i = (address / 8) as usize;
-    part_of(b, address % 8, memory[i])
-}
-
-// Replaces the b bits at an address.
-fn write(b: u32, memory: &mut [u64], address: u32, value: u32)
-    requires { (length memory.old ≡ DOUBLE_WORDS) × (address < MEMORY) × (b ≤ 32) × (8 * (address % 8) + b ≤ 64) }
-    ensures { memory.new ≡ put b memory.old address value }
-{
-    let i = (address / 8) as usize;
-    memory[i] = patched(b, address % 8, memory[i], value);
-}
-
-// The b bits of a double word from its byte k on.
-fn part_of(b: u32, k: u32, x: u64) -> u32
-    requires { (b ≤ 32) × (k < 8) }
-    ensures { result ≡ part b k x }
-{
-    let range = 1u64 << b;
-    ((x >> (8 * k)) % range) as u32
-}
-
-// A double word with these bits replaced by the low b bits of v.
-fn patched(b: u32, k: u32, x: u64, v: u32) -> u64
-    requires { (b ≤ 32) × (k < 8) × (8 * k + b ≤ 64) }
-    ensures { result ≡ patch b k x v }
-{
-    let places = 8 * k;
-    let range = 1u64 << b;
-    let old = (x >> places) % range;
-    let new = v as u64 % range;
-    x - (old << places) + (new << places)
+    let index = address.index();
+    let below = address.below();
+    let range = 1u64 << BITS;
+    let old = (memory[index] >> below) % range;
+    let new = value as u64 % range;
+    memory[index] = memory[index] - (old << below) + (new << below);
 }

@@ -6,7 +6,6 @@ ghost use Rattle.std.specs.Prelude.{◌≡◌};
 ghost use Rattle.vamp.specs.Steps.{answered, stepping, running};
 
 mod course;
-mod effects;
 mod events;
 mod lanes;
 
@@ -14,7 +13,7 @@ use machine::Machine;
 use machine::refusals::not_zero;
 
 // What a call answers: the document's number, and the cause word.
-#[derive(Clone, Copy)]
+#[derive(Clone, Copy, Debug, PartialEq, Eq)]
 pub enum Answer {
     // 0, stepped, with an empty cause word.
     Stepped,
@@ -48,17 +47,13 @@ impl Answer {
 
     pub const OVERFLOW: u32 = 64;
 
-    // The document's number.
+    // The document's number. Several answers share one, so no discriminants give it.
     pub fn number(self) -> u32
         ensures { result ≡ (answered self).0 }
     {
         match self {
-            Answer::Stepped => 0,
-            Answer::Masked => 0,
-            Answer::Misaligned => 31,
-            Answer::Illegal => 31,
-            Answer::Trap => 31,
-            Answer::Overflow => 31,
+            Answer::Stepped | Answer::Masked => 0,
+            Answer::Misaligned | Answer::Illegal | Answer::Trap | Answer::Overflow => 31,
             Answer::PastMemory => 32,
             Answer::Mode => 33,
             Answer::WrongLength => 1,
@@ -71,21 +66,20 @@ impl Answer {
         ensures { result ≡ (answered self).1 }
     {
         match self {
-            Answer::Stepped => 0,
-            Answer::Masked => Answer::OVERFLOW,
             Answer::Misaligned => Answer::MISALIGNED,
             Answer::Illegal => Answer::ILLEGAL,
             Answer::Trap => Answer::TRAP,
-            Answer::Overflow => Answer::OVERFLOW,
-            Answer::PastMemory => 0,
-            Answer::Mode => 0,
-            Answer::WrongLength => 0,
-            Answer::NotZero => 0,
+            Answer::Masked | Answer::Overflow => Answer::OVERFLOW,
+            Answer::Stepped
+            | Answer::PastMemory
+            | Answer::Mode
+            | Answer::WrongLength
+            | Answer::NotZero => 0,
         }
     }
 }
 
-// What one step answers, and the machine after it.
+// What one step answers, and the machine after it: `step` is promised equal to `stepping`, which counts nothing as `Ran` does.
 #[derive(Clone, Copy)]
 pub struct Stepped {
     pub answer: Answer,
@@ -107,53 +101,34 @@ pub fn step(machine: Machine, memory: &mut [u64]) -> Stepped
     ensures { (answered result.answer, result.machine, memory.new) ≡ stepping machine memory.old }
 {
     let ran = run(machine, memory, 1);
-    let answer = ran.answer;
-    let after = ran.machine;
     Stepped {
-        answer,
-        machine: after,
+        answer: ran.answer,
+        machine: ran.machine,
     }
 }
 
 // Up to `steps` steps, that stop before the first one whose answer is not 0.
+#[tactic(auto, using(crate::proofs::Calls::run_length, crate::proofs::Calls::run_zero, crate::proofs::Calls::run_works))]
 pub fn run(machine: Machine, memory: &mut [u64], steps: u32) -> Ran
     ensures { (result.steps, answered result.answer, result.masked, result.machine, memory.new) ≡ running machine memory.old steps }
 {
-    if memory.len() != Machine::DOUBLE_WORDS {
-        return Ran {
-            steps: 0,
-            answer: Answer::WrongLength,
-            masked: 0,
-            machine,
-        };
-    }
-    if not_zero(machine) {
-        return Ran {
-            steps: 0,
-            answer: Answer::NotZero,
-            masked: 0,
-            machine,
-        };
-    }
-    let code = machine.code;
-    let words = machine.data;
-    let mut gpr = machine.gpr;
-    let mut spr = machine.spr;
-    let course = course::go(machine.dpc, machine.pc, &mut gpr, &mut spr, memory, steps);
-    let answer = course.answer;
-    let after = Machine {
-        code,
-        data: words,
-        limit: machine.limit,
-        dpc: course.dpc,
-        pc: course.pc,
-        gpr,
-        spr,
+    let Some(double_words) = memory.as_mut_array() else {
+        return refused(Answer::WrongLength, machine);
     };
+    if not_zero(&machine) {
+        return refused(Answer::NotZero, machine);
+    }
+    course::go(machine, double_words, steps)
+}
+
+// A call that is refused takes no step.
+fn refused(answer: Answer, machine: Machine) -> Ran
+    ensures { result ≡ record { steps = 0; answer = answer; masked = 0; machine = machine } }
+{
     Ran {
-        steps: course.steps,
+        steps: 0,
         answer,
-        masked: course.masked,
-        machine: after,
+        masked: 0,
+        machine,
     }
 }

@@ -1,15 +1,24 @@
-use borrow.Author.Rules.{rules}
-use mathlib.Core.Path.{sym, ◌∙◌}
+use Prim.Native.Nat.{ℕ, ◌+◌}
+use mathlib.Core.Path.{◌≡◌, sym, ap, ◌∙◌}
 use native.Mathlib.Omega.{arith}
-use Rattle.vamp.proofs.Onward.{goes_on, stops, ends, reported_most}
-use Rattle.vamp.specs.Steps.{answered}
+use Rattle.vamp.proofs.Onward.{goes_on, stops, ends, reported_is, reported_most}
+use Rattle.vamp.specs.Steps.{answered, reported}
+use Rattle.vamp.specs.Inner.{course_of}
 use Rattle.vamp.proofs.course.go.Goals as goal
 
-pub returns-then-number-ne-TAKEN : goal.returns-then-number-ne-TAKEN
-returns-then-number-ne-TAKEN c = sym (stops _ _ _ _ c.loop-steps-test.true c.one-moved.ensures (λ z. c.if-number-ne-TAKEN.true (c.number.ensures ∙ z))) ∙ c.loop-steps.invariant.3
+pub returns-in-Err : goal.returns-in-Err
+returns-in-Err c =
+    rw c.with_state.ensures (ap (course_of c.args.machine) (sym (stops _ _ _ c.loop-taken-test.true c.one.result c.one.ensures.answer _ c.one.ensures.left c.in-Err.said c.in-Err.is) ∙ c.loop-taken.invariant.2))
 
-pub loop-steps-preserved : goal.loop-steps-preserved
-loop-steps-preserved c = let m = reported_most (answered c.one-moved.result.answer).1 in (omega arith, omega (arith, c.count-masked.ensures), search rules, sym (goes_on _ _ _ _ c.loop-steps-test.true c.one-moved.ensures (sym c.number.ensures ∙ c.if-number-ne-TAKEN.false) _ c.count-masked.ensures) ∙ c.loop-steps.invariant.3)
+pub loop-taken-preserved : goal.loop-taken-preserved
+loop-taken-preserved c =
+    let m : c.from-masked.result ≡ reported (answered c.in-Ok.said).1 = c.from-masked.ensures ∙ reported_is c.cause.result ∙ ap reported c.cause.ensures in
+    let l = reported_most (answered c.in-Ok.said).1 in (
+      omega arith,
+      omega arith,
+      sym (goes_on _ _ _ c.loop-taken-test.true c.one.result c.one.ensures.answer _ c.one.ensures.left c.in-Ok.said c.in-Ok.is _ (ap (λ (n : ℕ). c.loop-taken.masked + n) m)) ∙ c.loop-taken.invariant.2,
+    )
 
 pub returns : goal.returns
-returns c = sym (ends _ _ _ c.loop-steps-test.false) ∙ c.loop-steps.invariant.3
+returns c =
+    rw c.with_state-2.ensures (ap (course_of c.args.machine) (sym (ends _ _ _ _ _ c.loop-taken-test.false c.loop-taken.invariant.0) ∙ c.loop-taken.invariant.2))
