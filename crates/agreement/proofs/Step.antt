@@ -51,49 +51,26 @@ module _ (c d : Region) (l : Laid c d) (code ws mem : List ℕ) (i : Image c d c
 
   pub found_same : (e : Effect) → ByWords e → askew e ≡ false → outside d e ≡ false → ship-steps.found e mem ≡ drawing.found d ws e
   unfolding ship-steps.found drawing.found loaded
-  found_same (does.Put n x) b s o = refl
-  found_same (does.PutSpecial n x) b s o = refl
-  found_same (does.Sum n x t) b s o = refl
   found_same (does.Load k n a) b s o = rw b (load_same c d l code ws mem i a (even_load k n a b s) (load_inside d (does.Load k n a) k n a refl o))
-  found_same (does.Store k a x) b s o = refl
-  found_same (does.Trap z) b s o = refl
-  found_same does.Return b s o = refl
-  found_same does.Nothing b s o = refl
+  found_same _ b s o = refl
 
   pub kept_same : (e : Effect) → ByWords e → Small e → askew e ≡ false → outside d e ≡ false → Image c d code (drawing.left d ws e) (ship-steps.memory_after e mem)
   unfolding ship-steps.memory_after drawing.left memory.stored
-  kept_same (does.Put n x) b z s o = i
-  kept_same (does.PutSpecial n x) b z s o = i
-  kept_same (does.Sum n x t) b z s o = i
-  kept_same (does.Load k n a) b z s o = i
   kept_same (does.Store k a x) b z s o = rw b (store_same c d l code ws mem i a x (even_store k a x b s) (store_inside d (does.Store k a x) k a x refl o) z room size)
-  kept_same (does.Trap z) b y s o = i
-  kept_same does.Return b z s o = i
-  kept_same does.Nothing b z s o = i
+  kept_same _ b z s o = i
 
   -- An access in the data region is not past memory
   pub not_past : (e : Effect) → outside d e ≡ false → access_past e ≡ false
   unfolding access_past access
-  not_past (does.Put n x) o = refl
-  not_past (does.PutSpecial n x) o = refl
-  not_past (does.Sum n x t) o = refl
   not_past (does.Load k n a) o = lt-leb MEMORY a (let h = holds_yes d a (load_inside d (does.Load k n a) k n a refl o) in let q = l.data_in in omega arith)
   not_past (does.Store k a x) o = lt-leb MEMORY a (let h = holds_yes d a (store_inside d (does.Store k a x) k a x refl o) in let q = l.data_in in omega arith)
-  not_past (does.Trap z) o = refl
-  not_past does.Return o = refl
-  not_past does.Nothing o = refl
+  not_past _ o = refl
 
 -- A word that is loaded is a word
 found_small : (e : Effect) (mem : List ℕ) → ByWords e → ship-steps.found e mem < 2 ^ 32
 unfolding ship-steps.found loaded
-found_small (does.Put n x) mem b = omega arith
-found_small (does.PutSpecial n x) mem b = omega arith
-found_small (does.Sum n x t) mem b = omega arith
 found_small (does.Load k n a) mem b = rw b (part_below 32 (a % 8) (get_or mem (a / 8) 0))
-found_small (does.Store k a x) mem b = omega arith
-found_small (does.Trap z) mem b = omega arith
-found_small does.Return mem b = omega arith
-found_small does.Nothing mem b = omega arith
+found_small _ mem b = omega arith
 
 -- ---- Events
 

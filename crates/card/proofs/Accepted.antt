@@ -1,18 +1,19 @@
 -- A card that no test refuses: what each test of the table has left, and that the record passes the record tests of both machines.
-use Prim.Native.Nat.{ℕ, ◌+◌, ◌*◌}
-use mathlib.Core.Path.{◌≡◌, refl}
-use mathlib.Core.Bool.{Bool, true, false, not, ◌||◌}
+use Prim.Native.Nat.{ℕ, ◌+◌, ◌*◌, ◌≤◌}
+use mathlib.Core.Path.{◌≡◌, refl, ◌∙◌}
+use mathlib.Core.Bool.{Bool, true, false}
 use mathlib.Core.List.{List}
 use native.Mathlib.Omega.{arith}
-use borrow.Author.Tests.{eqb-true, not-false}
+use borrow.Author.Tests.{eqb-true, ltb-false, not-false}
 use lib.Dec.{eqb}
 use lib.ListN.{length}
+use Rattle.std.proofs.lemmas.Bool.Decides.{nat_tests}
 use Rattle.words.specs.Fields.{pick}
 use Rattle.machine.specs.declared.Machine.{Machine}
 use Rattle.machine.specs.Record.{DOUBLE_WORDS, LONGEST, wrong_count_lem, unaligned_start_lem, past_memory_lem, overlap, not_zero_lem, over_limit_lem}
-use Rattle.machine.proofs.Regions.{either_left, either_right, right_count}
+use Rattle.machine.proofs.Regions.{right_count}
 use Rattle.card.specs.Card.{BODY, record_of_lem, wrong_length_lem, too_short, wrong_mark_lem, wrong_version, reserved_set_lem, wrong_size_lem, refusal}
-use Rattle.card.specs.Work.{Room}
+use Rattle.card.specs.Work.{header, from_two, Room}
 
 -- No test of a record refuses m
 pub record Passes (m : Machine) : Type 0 where
@@ -71,30 +72,28 @@ module _ (card : List ℕ) (code words memory : ℕ) where
   not_refused a =
       rw (a.lengths, a.long, a.mark, a.version, a.reserved, a.passes.counts, a.size, a.passes.starts, a.passes.within, a.passes.apart, a.passes.zero, a.passes.limit)
 
+-- A card that the test 2 leaves has its fields
+pub long_enough : (card : List ℕ) → header card ≡ 0 → BODY ≤ length card
+unfolding too_short
+long_enough card e = ltb-false (length card) BODY (not_this (too_short card) 2 _ (omega arith) e).0
+
 -- The lengths that the work relies on
 pub right_length : (code words memory : ℕ) → wrong_length_lem code words memory ≡ false → (code ≡ LONGEST) × (words ≡ LONGEST) × (memory ≡ DOUBLE_WORDS)
 unfolding wrong_length_lem
-right_length code words memory e =
-    let a = either_left (not (eqb code LONGEST) || not (eqb words LONGEST)) (not (eqb memory DOUBLE_WORDS)) e in (
-      eqb-true code LONGEST (not-false (eqb code LONGEST) (either_left (not (eqb code LONGEST)) (not (eqb words LONGEST)) a)),
-      eqb-true words LONGEST (not-false (eqb words LONGEST) (either_right (not (eqb code LONGEST)) (not (eqb words LONGEST)) a)),
-      eqb-true memory DOUBLE_WORDS (not-false (eqb memory DOUBLE_WORDS) (either_right (not (eqb code LONGEST) || not (eqb words LONGEST)) (not (eqb memory DOUBLE_WORDS)) e)),
-    )
+right_length code words memory e = grind (arith, nat_tests)
 
 pub right_size : (n : ℕ) (m : Machine) → wrong_size_lem n m ≡ false → n ≡ BODY + 4 * (m.code.words + m.«data».words)
 unfolding wrong_size_lem
 right_size n m e = eqb-true n (BODY + 4 * (m.code.words + m.«data».words)) (not-false (eqb n (BODY + 4 * (m.code.words + m.«data».words))) e)
 
-pub room : (card code ws memory : List ℕ) → refusal card (length code) (length ws) (length memory) ≡ 0 → Room card code ws memory
-room card code ws memory e =
-    let a = accepted card (length code) (length ws) (length memory) e in
-    let l = right_length (length code) (length ws) (length memory) a.lengths in
+-- The table where the lengths of the buffers are right
+pub from_one : (card : List ℕ) → refusal card LONGEST LONGEST DOUBLE_WORDS ≡ from_two card (record_of_lem card)
+unfolding refusal wrong_length_lem
+from_one card = refl
+
+-- What the tests from 2 on leave
+pub room : (card : List ℕ) → from_two card (record_of_lem card) ≡ 0 → Room card
+room card e =
+    let a = accepted card LONGEST LONGEST DOUBLE_WORDS (from_one card ∙ e) in
     let k = right_count (record_of_lem card) a.passes.counts in
-    record {
-      code_length = l.0;
-      data_length = l.1;
-      memory_length = l.2;
-      size = right_size (length card) (record_of_lem card) a.size;
-      code_words = k.1;
-      data_words = k.2;
-    }
+    record { size = right_size (length card) (record_of_lem card) a.size; code_words = k.1; data_words = k.2 }

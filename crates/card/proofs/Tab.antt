@@ -1,6 +1,6 @@
--- The list f 0 to f (n - 1), and a buffer that a loop fills with it from the front.
+-- The list f 0 to f (n - 1), and what is filled with it.
 use Prim.Native.Nat.{ℕ, zero, suc, ◌+◌, ◌≤◌, ◌<◌}
-use mathlib.Core.Path.{◌≡◌, refl, sym, ap, ◌∙◌}
+use mathlib.Core.Path.{◌≡◌, refl, sym, ap, subst, ◌∙◌}
 use mathlib.Core.Bool.{Bool, true, false}
 use mathlib.Core.List.{List, [], ◌∷◌, ◌++◌, append_assoc, append-nil}
 use native.Mathlib.Nat.{add-zero, add-suc}
@@ -8,8 +8,11 @@ use native.Mathlib.Numerals.{add-one}
 use native.Mathlib.Omega.{arith}
 use borrow.Author.Tests.{eqb-true, eqb-false, ltb-true, ltb-false}
 use lib.Dec.{eqb, ltb}
-use lib.ListN.{length, get_or, set, drop, length-append, length-set, get_or-append, get_or-eq_default, drop_of_length-le, replicate, replicate-append-replicate}
-use lib.Seq.{get_or_at, set_at, drop-cons}
+use lib.ListN.{length, get_or, length-append, get_or-append, get_or-eq_default, replicate, replicate-append-replicate}
+use lib.Seq.{get_or_at}
+use denote.Param.Members.{Mut, Called}
+use Rattle.std.proofs.lemmas.List.{ext_get_or}
+use Rattle.std.specs.Array.{IsFromFnResultFrom, IsFromFnResult}
 use Rattle.card.specs.Card.{tab}
 
 pub tab_length : (f : ℕ → ℕ) (n : ℕ) → length (tab f n) ≡ n
@@ -49,29 +52,21 @@ tab_below f n m z p i = by (ltb i n) refl
     by true e = rw (tab_at f n i (ltb-true i n e)) (p i)
     by false e = rw (tab_past f n i (ltb-false i n e)) z
 
--- The buffer d₀ with its first i places filled
-pub record Filling (f : ℕ → ℕ) (d₀ d : List ℕ) (i : ℕ) : Type 0 where
-  pub within : i ≤ length d₀
-  pub kept : length d ≡ length d₀
-  pub filled : d ≡ tab f i ++ drop i d₀
+-- A list of n numbers that are those of f is tab f n
+pub tab_of : (f : ℕ → ℕ) (n : ℕ) (xs : List ℕ) → length xs ≡ n → ((i : ℕ) → i < n → get_or xs i 0 ≡ f i) → xs ≡ tab f n
+tab_of f n xs l h = ext_get_or 0 xs (tab f n) (l ∙ sym (tab_length f n)) (λ i k. let j : i < n = omega arith in h i j ∙ sym (tab_at f n i j))
 
-pub filling_none : (f : ℕ → ℕ) (d : List ℕ) → Filling f d d 0
-unfolding tab
-filling_none f d = record { within = omega arith; kept = refl; filled = refl }
+-- What a closure that no call changes has filled an array with
+module _ {F : Type 0} (g : Mut F (ℕ × Unit {0}) ℕ) (c : F) (f : ℕ → ℕ) (one : (i y : ℕ) (q : F) → Called g c (i, tt) y q → (y ≡ f i) × (q ≡ c)) where
+  each_is : (xs : List ℕ) (p : F) (i n k : ℕ) → p ≡ c → IsFromFnResultFrom g p xs i n → i ≤ k → k < i + n → get_or xs k 0 ≡ f k
+  each_is xs p i zero k e r l h = absurd (omega arith)
+  each_is xs p i (suc n) k e r l h =
+      let first = one i r.1 r.0 (subst (λ (s : F). Called g s (i, tt) r.1 r.0) e r.3) in
+      by (eqb k i) refl (r.2.1 0 ∙ first.0) (λ j. each_is xs r.0 (i + 1) n k first.1 r.4 j (omega arith))
+    where
+      by : (t : Bool) → eqb k i ≡ t → get_or xs i 0 ≡ f i → (i + 1 ≤ k → get_or xs k 0 ≡ f k) → get_or xs k 0 ≡ f k
+      by true t here later = rw (eqb-true k i t) here
+      by false t here later = let j : k ≡ i → ⊥ = eqb-false k i t in later (omega arith)
 
-pub filling_more : (f : ℕ → ℕ) {d₀ d : List ℕ} {i : ℕ} (v : ℕ) → Filling f d₀ d i → i < length d₀ → v ≡ f i → Filling f d₀ (set d i v) (i + 1)
-unfolding tab
-filling_more f {d₀} {d} {i} v p l e =
-    record {
-      within = omega arith;
-      kept = length-set d i v ∙ p.kept;
-      filled =
-          rw (add-one i, p.filled, e, drop-cons d₀ i 0 l)
-          (set_at (tab f i) (get_or d₀ i 0) (drop (suc i) d₀) (f i) i (tab_length f i) ∙ sym (append_assoc (tab f i) (f i ∷ []) (drop (suc i) d₀)));
-    }
-
-pub filling_all : (f : ℕ → ℕ) {d₀ d : List ℕ} {i : ℕ} (n : ℕ) → Filling f d₀ d i → length d₀ ≡ n → n ≤ i → d ≡ tab f n
-filling_all f {d₀} {d} {i} n p k l =
-    let w : i ≤ length d₀ = p.within in
-    let e : i ≡ n = omega arith in
-    p.filled ∙ ap (λ (t : List ℕ). tab f i ++ t) (drop_of_length-le d₀ {i = i} (omega arith)) ∙ append-nil (tab f i) ∙ ap (tab f) e
+  pub tab_from_fn : (xs : List ℕ) (n : ℕ) → IsFromFnResult g c xs n → xs ≡ tab f n
+  tab_from_fn xs n r = tab_of f n xs r.long (λ i l. each_is xs c 0 n i refl r.each (omega arith) (omega arith))

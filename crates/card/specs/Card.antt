@@ -1,11 +1,10 @@
 -- Document 01, "The run card": where the fields stand, the refusal table, and what loading leaves.
-use Rattle.std.specs.Prelude.{ℕ, zero, suc, ◌+◌, ◌*◌, ◌^◌, ◌<◌, Bool, true, false, not, ◌&&◌, ◌||◌, List, [], ◌∷◌, ◌++◌, eqb, ltb, length, get_or}
+use Rattle.std.specs.Prelude.{ℕ, zero, suc, ◌+◌, ◌*◌, ◌^◌, ◌<◌, Bool, true, false, not, ◌&&◌, ◌||◌, List, [], ◌∷◌, ◌++◌, eqb, ltb, length, get_or, Result, Ok, Err}
 use Rattle.words.specs.Fields.{pick}
 use Rattle.machine.specs.declared.Machine.{Machine}
 use Rattle.machine.specs.declared.Region.{Region}
-use Rattle.machine.specs.Record.{LONGEST, DOUBLE_WORDS, zeros, image, wrong_count_lem, unaligned_start_lem, past_memory_lem, overlap, not_zero_lem, over_limit_lem, first}
-use Rattle.card.specs.declared.Answer.{Answer}
-use Rattle.card.specs.declared.Answer.TheVariants.{Refused, Loaded}
+use Rattle.machine.specs.declared.Refusal.{Refusal}
+use Rattle.machine.specs.Record.{LONGEST, DOUBLE_WORDS, zeros, image, wrong_count_lem, unaligned_start_lem, past_memory_lem, overlap, not_zero_lem, over_limit_lem, first, refusal_no}
 
 -- A card is a string of bytes
 abbrev pub Bytes : List ℕ → Type 0
@@ -118,9 +117,9 @@ abbrev pub loaded : List ℕ → Machine × List ℕ × List ℕ × List ℕ
 loaded card = (record_of_lem card, code_buffer card, data_buffer card, memory_buffer card)
 
 -- The paper's number of an answer, 0 where the card is loaded, and whether it is
-abbrev pub answer_of : Answer → ℕ × Bool
-answer_of (Refused n) = (n, false)
-answer_of Loaded = (0, true)
+abbrev pub answer_of : Result (Unit {0}) Refusal → ℕ × Bool
+answer_of (Err refusal) = (refusal_no refusal, false)
+answer_of (Ok u) = (0, true)
 
 -- Answer, record and the three buffers. A refusal changes no buffer; a refused load returns a record of zeros
 unfoldable pub loading : List ℕ → List ℕ → List ℕ → List ℕ → (ℕ × Bool) × Machine × List ℕ × List ℕ × List ℕ

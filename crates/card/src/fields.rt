@@ -23,31 +23,22 @@ pub const SPECIAL: usize = 164;
 // The code words, then the data words.
 pub const BODY: usize = 292;
 
-// A byte as a number with room.
-fn wide(byte: u8) -> u32
-    ensures { (result ≡ byte) × (result < 256) }
-{
-    byte as u32
-}
-
 // The number of 16 bits at an offset.
-pub(crate) fn number16(card: &[u8], at: usize) -> u32
+#[tactic(auto, unfolding(crate::specs::Card::number16))]
+pub(crate) fn number16(card: &[u8], at: usize) -> u16
     requires { at + 2 ≤ length card.now }
-    ensures { (result ≡ number16 card.now at) × (result < 2 ^ 16) }
+    ensures { result ≡ number16 card.now at }
 {
-    let low = wide(card[at]);
-    let high = wide(card[at + 1]);
-    low + 256 * high
+    u16::from_le_bytes([card[at], card[at + 1]])
 }
 
 // The number of 32 bits at an offset.
+#[tactic(auto, unfolding(crate::specs::Card::number32))]
 pub(crate) fn number32(card: &[u8], at: usize) -> u32
     requires { at + 4 ≤ length card.now }
     ensures { result ≡ number32 card.now at }
 {
-    let low = number16(card, at);
-    let high = number16(card, at + 2);
-    low + 65536 * high
+    u32::from_le_bytes([card[at], card[at + 1], card[at + 2], card[at + 3]])
 }
 
 // The 32 registers from an offset on.
@@ -55,16 +46,11 @@ fn registers(card: &[u8], from: usize) -> [u32; 32]
     requires { from + 128 ≤ length card.now }
     ensures { result ≡ numbers card.now from 32 }
 {
-    let mut list = [0; 32];
-    let mut i = 0;
-    while i < 32 {
-        list[i] = number32(card, from + 4 * i);
-        i += 1;
-    }
-    list
+    std::array::from_fn(|i| number32(card, from + 4 * i))
 }
 
 // The record of a card that has its fields.
+#[tactic(auto, unfolding(crate::specs::Card::record_of_lem))]
 pub(crate) fn record_of(card: &[u8]) -> Machine
     requires { BODY ≤ length card.now }
     ensures { result ≡ record_of_lem card.now }
@@ -77,15 +63,13 @@ pub(crate) fn record_of(card: &[u8]) -> Machine
         start: number32(card, DATA),
         words: number32(card, DATA + 4),
     };
-    let gpr = registers(card, GENERAL);
-    let spr = registers(card, SPECIAL);
     Machine {
         code,
         data,
         limit: number32(card, LIMIT),
         dpc: number32(card, DPC),
         pc: number32(card, PC),
-        gpr,
-        spr,
+        gpr: registers(card, GENERAL),
+        spr: registers(card, SPECIAL),
     }
 }
