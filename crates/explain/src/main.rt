@@ -14,12 +14,7 @@ fn main(rt: HostRuntime) -> io::Result<()> {
 
 fn answer<R: Read, W: Write>(input: &mut R, out: &mut W, card: &mut [u8]) -> io::Result<()> {
     let n = read_full(input, card)?;
-    let first = line(judge(&card[..n]));
-    let len = first.len;
-    let bytes = first.bytes;
-    put(out, &bytes[..len])?;
-    let second = because(explain(&card[..n]));
-    let more = second.len;
-    let rest = second.bytes;
-    put(out, &rest[..more])
+    let card = &card[..n];
+    put(out, line(judge(card)).text())?;
+    put(out, because(explain(card)).text())
 }

@@ -11,6 +11,7 @@ use lib.Dec.{eqb, ltb}
 use lib.ListN.{length, get_or, take, drop}
 use lib.Seq.{take-append_seam}
 use Rattle.words.specs.Fields.{pick}
+use Rattle.checker.specs.declared.At.{At}
 use Rattle.judge.specs.declared.Ruling.{Ruling}
 use Rattle.judge.specs.declared.Ruling.TheVariants.{Refused, Accepted, Violation}
 use Rattle.judge.specs.declared.lines.Line.{Line}
@@ -37,8 +38,8 @@ digits_decide b zero n m z l e = rw (pow-zero b) (mod-one n ∙ sym (mod-one m))
 digits_decide b (suc k) n m z l e =
     let p : 0 < b ^ k = one-le-pow k b z in
     let g : n / b ^ k % b ≡ m / b ^ k % b =
-    glyph_decides (n / b ^ k % b) (m / b ^ k % b) (lt_of_lt_of_le (mod-lt (n / b ^ k) z) l) (lt_of_lt_of_le (mod-lt (m / b ^ k) z) l) (ap (λ (t : List ℕ). get_or t 0 0) e) in
-    let r : n % b ^ k ≡ m % b ^ k = digits_decide b k n m z l (ap (λ (t : List ℕ). drop 1 t) e) in
+    glyph_decides (n / b ^ k % b) (m / b ^ k % b) (lt_of_lt_of_le (mod-lt (n / b ^ k) z) l) (lt_of_lt_of_le (mod-lt (m / b ^ k) z) l) (cc) in
+    let r : n % b ^ k ≡ m % b ^ k = digits_decide b k n m z l (cc) in
     rw (pow-succ' b k, mod-mul n z p, mod-mul m z p, g, r)
 
 -- A number has as many digits as the table says
@@ -129,28 +130,32 @@ word_visible v w = by (eqb v 21) (eqb v 22)
     by false true = (omega arith, tt)
     by false false = hex_visible w
 
-head : (x y : ℕ) (xs ys : List ℕ) → ◌≡◌ {A = List ℕ} (x ∷ xs) (y ∷ ys) → x ≡ y
-head x y xs ys e = ap (λ (t : List ℕ). get_or t 0 0) e
-
-rest : (x y : ℕ) (xs ys : List ℕ) → ◌≡◌ {A = List ℕ} (x ∷ xs) (y ∷ ys) → xs ≡ ys
-rest x y xs ys e = ap (λ (t : List ℕ). drop 1 t) e
-
 pub split : (xs ys : List ℕ) (s : ℕ) (t u : List ℕ) → Visible xs → Visible ys → s ≤ 32 → xs ++ s ∷ t ≡ ys ++ s ∷ u → (xs ≡ ys) × (t ≡ u)
-split [] [] s t u p q l e = (refl, rest s s t u e)
-split [] (y ∷ ys) s t u p q l e = let h = head s y t (ys ++ s ∷ u) e in let k = q.0 in absurd (omega arith)
-split (x ∷ xs) [] s t u p q l e = let h = head x s (xs ++ s ∷ t) u e in let k = p.0 in absurd (omega arith)
+split [] [] s t u p q l e = (refl, cc)
+split [] (y ∷ ys) s t u p q l e = let h : s ≡ y = cc in let k = q.0 in absurd (omega arith)
+split (x ∷ xs) [] s t u p q l e = let h : x ≡ s = cc in let k = p.0 in absurd (omega arith)
 split (x ∷ xs) (y ∷ ys) s t u p q l e =
-    let h = head x y (xs ++ s ∷ t) (ys ++ s ∷ u) e in
-    let r = split xs ys s t u p.1 q.1 l (rest x y (xs ++ s ∷ t) (ys ++ s ∷ u) e) in
+    let h : x ≡ y = cc in
+    let r = split xs ys s t u p.1 q.1 l (cc) in
     (rw (h, r.0), r.1)
 
 -- ---- The theorem
+
+-- A step's numbers have 32 bits, as their type has it
+abbrev pub Words : At → Type 0
+Words a = (a.step < 2 ^ 32) × (a.dpc < 2 ^ 32) × (a.word < 2 ^ 32)
+
+pub at_same : (a b : At) → a.step ≡ b.step → a.dpc ≡ b.dpc → a.word ≡ b.word → a ≡ b
+at_same a b p q r = fields p q r
+  where
+    fields : a.step ≡ b.step → a.dpc ≡ b.dpc → a.word ≡ b.word → ◌≡◌ {A = At} (record { step = a.step; dpc = a.dpc; word = a.word }) (record { step = b.step; dpc = b.dpc; word = b.word })
+    fields p q r = rw (p, q, r)
 
 -- Values of 32 bits, and word 0 for 21 and 22, whose line tells none: all that `judge` gives is so (Rulings)
 abbrev pub Proper : Ruling → Type 0
 Proper (Refused n) = n < 2 ^ 32
 Proper (Accepted n d) = (n < 2 ^ 32) × (d < 2 ^ 32)
-Proper (Violation v k d w) = (v < 2 ^ 32) × (k < 2 ^ 32) × (d < 2 ^ 32) × (w < 2 ^ 32) × (v ≡ 21 → w ≡ 0) × (v ≡ 22 → w ≡ 0)
+Proper (Violation v a) = (v < 2 ^ 32) × Words a × (v ≡ 21 → a.word ≡ 0) × (v ≡ 22 → a.word ≡ 0)
 
 first_byte : (t u : List ℕ) → t ≡ u → get_or t 0 0 ≡ get_or u 0 0
 first_byte t u e = ap (λ (x : List ℕ). get_or x 0 0) e
@@ -170,7 +175,7 @@ text_decides (Refused n) (Refused m) p q e =
     let a = split (decimal n) (decimal m) 10 [] [] (decimal_visible n) (decimal_visible m) (omega arith) (ap (λ (t : List ℕ). drop 8 t) e) in
     ap Refused (decimal_decides n m p q a.0)
 text_decides (Refused n) (Accepted m d) p q e = let h = first_byte _ _ e in absurd (omega arith)
-text_decides (Refused n) (Violation v k d w) p q e = let h = first_byte _ _ e in absurd (omega arith)
+text_decides (Refused n) (Violation v a) p q e = let h = first_byte _ _ e in absurd (omega arith)
 text_decides (Accepted n d) (Refused m) p q e = let h = first_byte _ _ e in absurd (omega arith)
 text_decides (Accepted n d) (Accepted m c) p q e =
     let a = split (decimal n) (decimal m) 32 _ _ (decimal_visible n) (decimal_visible m) (omega arith) (ap (λ (t : List ℕ). drop 9 t) e) in
@@ -178,20 +183,21 @@ text_decides (Accepted n d) (Accepted m c) p q e =
     let x = decimal_decides n m p.0 q.0 a.0 in
     let y = hex_decides d c p.1 q.1 b.0 in
     rw (x, y)
-text_decides (Accepted n d) (Violation v k c w) p q e = let h = first_byte _ _ e in absurd (omega arith)
-text_decides (Violation v k d w) (Refused n) p q e = let h = first_byte _ _ e in absurd (omega arith)
-text_decides (Violation v k d w) (Accepted n c) p q e = let h = first_byte _ _ e in absurd (omega arith)
-text_decides (Violation v k d w) (Violation v' k' d' w') p q e =
-    let a = split (decimal v) (decimal v') 32 _ _ (decimal_visible v) (decimal_visible v') (omega arith) (ap (λ (t : List ℕ). drop 10 t) e) in
-    let b = split (decimal k) (decimal k') 32 _ _ (decimal_visible k) (decimal_visible k') (omega arith) (ap (λ (t : List ℕ). drop 5 t) a.1) in
-    let c = split (hex d) (hex d') 32 _ _ (hex_visible d) (hex_visible d') (omega arith) (ap (λ (t : List ℕ). drop 3 t) b.1) in
-    let f = split (word_text v w) (word_text v' w') 10 [] [] (word_visible v w) (word_visible v' w') (omega arith) (ap (λ (t : List ℕ). drop 5 t) c.1) in
-    let x : v ≡ v' = decimal_decides v v' p.0 q.0 a.0 in
-    let y : k ≡ k' = decimal_decides k k' p.1 q.1 b.0 in
-    let z : d ≡ d' = hex_decides d d' p.2 q.2 c.0 in
-    let g : word_text v w ≡ word_text v w' = f.0 ∙ ap (λ (i : ℕ). word_text i w') (sym x) in
-    let o : w ≡ w' = word_decides v w w' p.3 q.3 p.4 p.5 (λ i. q.4 (sym x ∙ i)) (λ i. q.5 (sym x ∙ i)) g in
-    rw (x, y, z, o)
+text_decides (Accepted n d) (Violation v a) p q e = let h = first_byte _ _ e in absurd (omega arith)
+text_decides (Violation v a) (Refused n) p q e = let h = first_byte _ _ e in absurd (omega arith)
+text_decides (Violation v a) (Accepted n c) p q e = let h = first_byte _ _ e in absurd (omega arith)
+text_decides (Violation v a) (Violation v' a') p q e =
+    let n = split (decimal v) (decimal v') 32 _ _ (decimal_visible v) (decimal_visible v') (omega arith) (ap (λ (t : List ℕ). drop 10 t) e) in
+    let s = split (decimal a.step) (decimal a'.step) 32 _ _ (decimal_visible a.step) (decimal_visible a'.step) (omega arith) (ap (λ (t : List ℕ). drop 5 t) n.1) in
+    let d = split (hex a.dpc) (hex a'.dpc) 32 _ _ (hex_visible a.dpc) (hex_visible a'.dpc) (omega arith) (ap (λ (t : List ℕ). drop 3 t) s.1) in
+    let w = split (word_text v a.word) (word_text v' a'.word) 10 [] [] (word_visible v a.word) (word_visible v' a'.word) (omega arith) (ap (λ (t : List ℕ). drop 5 t) d.1) in
+    let x : v ≡ v' = decimal_decides v v' p.0 q.0 n.0 in
+    let y : a.step ≡ a'.step = decimal_decides a.step a'.step p.1.0 q.1.0 s.0 in
+    let z : a.dpc ≡ a'.dpc = hex_decides a.dpc a'.dpc p.1.1 q.1.1 d.0 in
+    let g : word_text v a.word ≡ word_text v a'.word = w.0 ∙ ap (λ (i : ℕ). word_text i a'.word) (sym x) in
+    let o : a.word ≡ a'.word = word_decides v a.word a'.word p.1.2 q.1.2 p.2 p.3 (λ i. q.2 (sym x ∙ i)) (λ i. q.3 (sym x ∙ i)) g in
+    let b : a ≡ a' = at_same a a' y z o in
+    rw (x, b)
 
 -- The same of the lines themselves
 pub line_text : (t u : List ℕ) → line_of t ≡ line_of u → t ≡ u
@@ -220,14 +226,14 @@ values o q e = ap (λ (r : ℕ × List ℕ). length r.1) e
 pub answer_decides : (r s : Ruling) → answer_of r ≡ answer_of s → r ≡ s
 answer_decides (Refused n) (Refused m) e = ap Refused (number _ _ e)
 answer_decides (Refused n) (Accepted k d) e = let z = values _ _ e in absurd (omega arith)
-answer_decides (Refused n) (Violation v k d w) e = let z = values _ _ e in absurd (omega arith)
+answer_decides (Refused n) (Violation v a) e = let z = values _ _ e in absurd (omega arith)
 answer_decides (Accepted k d) (Refused n) e = let z = values _ _ e in absurd (omega arith)
 answer_decides (Accepted k d) (Accepted k' d') e = let x = value 0 _ _ e in let y = value 1 _ _ e in rw (x, y)
-answer_decides (Accepted k d) (Violation v k' d' w) e = let z = values _ _ e in absurd (omega arith)
-answer_decides (Violation v k d w) (Refused n) e = let z = values _ _ e in absurd (omega arith)
-answer_decides (Violation v k d w) (Accepted k' d') e = let z = values _ _ e in absurd (omega arith)
-answer_decides (Violation v k d w) (Violation v' k' d' w') e =
-    let p = number _ _ e in let x = value 0 _ _ e in let y = value 1 _ _ e in let z = value 2 _ _ e in rw (p, x, y, z)
+answer_decides (Accepted k d) (Violation v a) e = let z = values _ _ e in absurd (omega arith)
+answer_decides (Violation v a) (Refused n) e = let z = values _ _ e in absurd (omega arith)
+answer_decides (Violation v a) (Accepted k' d') e = let z = values _ _ e in absurd (omega arith)
+answer_decides (Violation v a) (Violation v' a') e =
+    let p = number _ _ e in let b = at_same a a' (value 0 _ _ e) (value 1 _ _ e) (value 2 _ _ e) in rw (p, b)
 
 -- The promise of `judge` is an equation of this form
 pub judge_unique : (r s : Ruling) (o : ℕ × List ℕ) → answer_of r ≡ o → answer_of s ≡ o → r ≡ s

@@ -12,6 +12,7 @@ use Rattle.machine.specs.declared.Machine.{Machine}
 use Rattle.machine.specs.declared.Region.{Region}
 use Rattle.machine.specs.Effects.{State}
 use Rattle.machine.specs.Record.{DOUBLE_WORDS, LONGEST, state_of, with_state}
+use Rattle.checker.specs.declared.At.{At}
 use Rattle.checker.specs.Checks.{violation}
 use Rattle.checker.specs.Runs.{running, runs, taking, run_refusal, after}
 use Rattle.checker.proofs.Theorems.{Fine, First, ends, accepts, stops_at}
@@ -24,7 +25,7 @@ use Rattle.judge.specs.Judging.{answer_of, ruled, refused_by, judging}
 use Rattle.judge.specs.declared.lines.Line.{Line}
 use Rattle.judge.specs.Line.{line_of, text_of}
 use Rattle.judge.proofs.Ruled.{judging_refused, judging_accepted}
-use Rattle.judge.proofs.Decides.{Proper, line_decides}
+use Rattle.judge.proofs.Decides.{Words, Proper, line_decides}
 
 -- The run of a record's own steps
 abbrev pub steps_of : List ℕ → (ℕ × List ℕ) × (State × List ℕ)
@@ -72,20 +73,19 @@ untold card = by (eqb (refused_by card) 0) refl
     by false e = rw (sym (judging_refused card (refused_by card) refl (eqb-false (refused_by card) 0 e))) (λ l. refl)
 
 -- What the judge gives as a violation of 21 or 22 has word 0, so that its line determines it (Decides, Proper)
-pub told_judged : (card : List ℕ) (v k d w : ℕ) → answer_of (Violation v k d w) ≡ judging card → v < 23 → w ≡ 0
-told_judged card v k d w e l = ap (λ (o : ℕ × List ℕ). get_or o.1 2 0) e ∙ untold card (rw (sym e) l)
+pub told_judged : (card : List ℕ) (v : ℕ) (a : At) → answer_of (Violation v a) ≡ judging card → v < 23 → a.word ≡ 0
+told_judged card v a e l = ap (λ (o : ℕ × List ℕ). get_or o.1 2 0) e ∙ untold card (rw (sym e) l)
 
 -- Every value is a number of 32 bits, as the type has it
 abbrev pub Sized : Ruling → Type 0
 Sized (Refused n) = n < 2 ^ 32
 Sized (Accepted n d) = (n < 2 ^ 32) × (d < 2 ^ 32)
-Sized (Violation v k d w) = (v < 2 ^ 32) × (k < 2 ^ 32) × (d < 2 ^ 32) × (w < 2 ^ 32)
+Sized (Violation v a) = (v < 2 ^ 32) × Words a
 
 proper : (card : List ℕ) (r : Ruling) → Sized r → answer_of r ≡ judging card → Proper r
 proper card (Refused n) s e = s
 proper card (Accepted n d) s e = s
-proper card (Violation v k d w) s e =
-    (s.0, s.1, s.2, s.3, λ x. told_judged card v k d w e (omega arith), λ x. told_judged card v k d w e (omega arith))
+proper card (Violation v a) s e = (s.0, s.1, λ x. told_judged card v a e (omega arith), λ x. told_judged card v a e (omega arith))
 
 -- The line determines the ruling: two rulings of the judge with the same line are equal
 pub judged_decides : (card card' : List ℕ) (r s : Ruling) (l m : Line) → Sized r → Sized s → answer_of r ≡ judging card → answer_of s ≡ judging card'

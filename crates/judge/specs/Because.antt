@@ -1,5 +1,6 @@
 -- Document 02, request Seven: the second line, which says where the bad address came from.
-use Rattle.std.specs.Prelude.{ℕ, List, [], ◌∷◌}
+use Rattle.std.specs.Prelude.{ℕ, List, [], ◌∷◌, Option, Some, None}
+use Rattle.checker.specs.declared.At.{At}
 use Rattle.checker.specs.declared.Source.{Source}
 use Rattle.checker.specs.declared.Source.TheVariants as came
 use Rattle.checker.specs.declared.Explanation.{Explanation}
@@ -9,22 +10,22 @@ use Rattle.judge.specs.Line.{decimal, hex, joined, END}
 -- ---- What a line names, in ASCII
 
 -- `step J at D word W`: J is decimal, D (the DPC) and W are eight capital hex digits
-unfoldable pub step_text : ℕ → ℕ → ℕ → List ℕ
-step_text j d w =
+unfoldable pub step_text : At → List ℕ
+step_text a =
     joined
     ((115 ∷ 116 ∷ 101 ∷ 112 ∷ 32 ∷ [])  -- `step `
-    ∷ decimal j
+    ∷ decimal a.step
     ∷ (32 ∷ 97 ∷ 116 ∷ 32 ∷ [])  -- ` at `
-    ∷ hex d
+    ∷ hex a.dpc
     ∷ (32 ∷ 119 ∷ 111 ∷ 114 ∷ 100 ∷ 32 ∷ [])  -- ` word `
-    ∷ hex w
+    ∷ hex a.word
     ∷ [])
 
 -- `card`, `zero` or the step that wrote the register
 unfoldable pub source_text : Source → List ℕ
 source_text came.Card = 99 ∷ 97 ∷ 114 ∷ 100 ∷ []  -- `card`
 source_text came.Zero = 122 ∷ 101 ∷ 114 ∷ 111 ∷ []  -- `zero`
-source_text (came.Step j d w) = step_text j d w
+source_text (came.Step a) = step_text a
 
 -- `rN from ..`: N is decimal
 unfoldable pub from_text : ℕ → Source → List ℕ
@@ -64,32 +65,32 @@ ran_on_text =
     ∷ [])
 
 -- `because dpc from step J at D word W`, where the line of a jr goes on
-unfoldable pub led_text : ℕ → ℕ → ℕ → List ℕ
-led_text j d w =
+unfoldable pub led_text : At → List ℕ
+led_text a =
     joined
     (BECAUSE
     ∷ (100 ∷ 112 ∷ 99 ∷ 32 ∷ 102 ∷ 114 ∷ 111 ∷ 109 ∷ 32 ∷ [])  -- `dpc from `
-    ∷ step_text j d w
+    ∷ step_text a
     ∷ [])
 
-unfoldable pub transfer_text : ℕ → ℕ → ℕ → List ℕ
-transfer_text j d w = joined (led_text j d w ∷ END ∷ [])
+unfoldable pub transfer_text : At → List ℕ
+transfer_text a = joined (led_text a ∷ END ∷ [])
 
 -- `because dpc from step J at D word W, rN from ..`
-unfoldable pub jr_text : ℕ → ℕ → ℕ → ℕ → Source → List ℕ
-jr_text j d w n s =
+unfoldable pub jr_text : At → ℕ → Source → List ℕ
+jr_text a n s =
     joined
-    (led_text j d w
+    (led_text a
     ∷ (44 ∷ 32 ∷ [])  -- `, `
     ∷ from_text n s
     ∷ END
     ∷ [])
 
 -- No line where there is no explanation
-abbrev pub because_text : Explanation → List ℕ
-because_text by.None = []
-because_text (by.Register n s) = register_text n s
-because_text by.Card = card_text
-because_text by.RanOn = ran_on_text
-because_text (by.Transfer j d w) = transfer_text j d w
-because_text (by.Jr j d w n s) = jr_text j d w n s
+abbrev pub because_text : Option Explanation → List ℕ
+because_text None = []
+because_text (Some (by.Register n s)) = register_text n s
+because_text (Some by.Card) = card_text
+because_text (Some by.RanOn) = ran_on_text
+because_text (Some (by.Transfer a)) = transfer_text a
+because_text (Some (by.Jr a n s)) = jr_text a n s

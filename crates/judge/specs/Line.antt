@@ -1,6 +1,7 @@
 -- Document 01, "The verdict line": the text of each ruling, and the line that holds it.
 use Rattle.std.specs.Prelude.{ℕ, ◌-◌, List, [], ◌∷◌, ◌++◌, eqb, length, replicate}
 use Rattle.words.specs.Fields.{pick}
+use Rattle.checker.specs.declared.At.{At}
 use Rattle.judge.specs.declared.Ruling.{Ruling}
 use Rattle.judge.specs.declared.Ruling.TheVariants.{Refused, Accepted, Violation}
 use Rattle.judge.specs.declared.lines.Line.{Line}
@@ -49,25 +50,25 @@ accepted_text n d =
     ∷ END
     ∷ [])
 
--- `violation V step K at D word W`
-unfoldable pub violation_text : ℕ → ℕ → ℕ → ℕ → List ℕ
-violation_text v k d w =
+-- `violation V step K at D word W`: K, D and W are of the step that breaks the test
+unfoldable pub violation_text : ℕ → At → List ℕ
+violation_text v a =
     joined
     ((118 ∷ 105 ∷ 111 ∷ 108 ∷ 97 ∷ 116 ∷ 105 ∷ 111 ∷ 110 ∷ 32 ∷ [])  -- `violation `
     ∷ decimal v
     ∷ (32 ∷ 115 ∷ 116 ∷ 101 ∷ 112 ∷ 32 ∷ [])  -- ` step `
-    ∷ decimal k
+    ∷ decimal a.step
     ∷ (32 ∷ 97 ∷ 116 ∷ 32 ∷ [])  -- ` at `
-    ∷ hex d
+    ∷ hex a.dpc
     ∷ (32 ∷ 119 ∷ 111 ∷ 114 ∷ 100 ∷ 32 ∷ [])  -- ` word `
-    ∷ word_text v w
+    ∷ word_text v a.word
     ∷ END
     ∷ [])
 
 abbrev pub text_of : Ruling → List ℕ
 text_of (Refused n) = refused_text n
 text_of (Accepted n d) = accepted_text n d
-text_of (Violation v k d w) = violation_text v k d w
+text_of (Violation v a) = violation_text v a
 
 -- ---- The line
 

@@ -1,29 +1,37 @@
 -- What the judge's functions say to one another.
-use Rattle.std.specs.Prelude.{ℕ, ◌+◌, List, [], ◌∷◌, set}
+use Rattle.std.specs.Prelude.{ℕ, ◌≡◌, List, [], ◌∷◌, ◌++◌, Result, Ok, Err}
+use Rattle.machine.specs.declared.Refusal.{Refusal}
+use Rattle.machine.specs.Record.{refusal_no}
+use Rattle.card.specs.Card.{record_of_lem, code_buffer, data_buffer}
 use Rattle.checker.specs.declared.Verdict.{Verdict}
 use Rattle.checker.specs.declared.Verdict.TheVariants.{Refused, Accepted, Violation}
+use Rattle.checker.specs.Checks.{test_no}
+use Rattle.judge.specs.declared.Program.{Program}
 use Rattle.judge.specs.declared.lines.Line.{Line}
+use Rattle.judge.specs.Line.{line_of}
+
+-- The number by which loading refuses; 0 where it does not
+abbrev pub refused_no : Result Program Refusal → ℕ
+refused_no (Ok p) = 0
+refused_no (Err r) = refusal_no r
+
+-- The record and the buffers that a card loads
+abbrev pub program_of : List ℕ → Program
+program_of card = record { machine = record_of_lem card; code = code_buffer card; words = data_buffer card }
 
 -- The answer of a verdict's ruling, the next DPC being known
 abbrev pub ruling_of_lem : Verdict → ℕ → ℕ × List ℕ
-ruling_of_lem (Refused n) dpc = (n, [])
+ruling_of_lem (Refused r) dpc = (refusal_no r, [])
 ruling_of_lem (Accepted k) dpc = (0, k ∷ dpc ∷ [])
-ruling_of_lem (Violation v k d w) dpc = (v, k ∷ d ∷ w ∷ [])
+ruling_of_lem (Violation v) dpc = (test_no v.test, v.at.step ∷ v.at.dpc ∷ v.at.word ∷ [])
 
--- A line with one more byte, and with more bytes
-unfoldable pub pushed : Line → ℕ → Line
-pushed l b = record { bytes = set l.bytes l.len b; len = l.len + 1 }
+-- The line m is the line l with a text behind its own
+pub record Extends (l m : Line) (text : List ℕ) : Type 0 where
+  pub line : (t : List ℕ) → l ≡ line_of t → m ≡ line_of (t ++ text)
 
-unfoldable pub appended : Line → List ℕ → Line
-appended l [] = l
-appended l (b ∷ bs) = appended (pushed l b) bs
-
--- The most bytes in a second line: of a step, of a register with its source, and as far as a taken transfer
+-- The most bytes in a second line: of a step, and of a register with its source
 abbrev pub STEP_BYTES : ℕ
 STEP_BYTES = 41
 
 abbrev pub FROM_BYTES : ℕ
 FROM_BYTES = 58
-
-abbrev pub LED_BYTES : ℕ
-LED_BYTES = 58

@@ -2,126 +2,117 @@
 // from, and the second line that says so: document 02, request Seven.
 #![tactic(auto)]
 
-ghost use Rattle.std.specs.Prelude.{◌≤◌, ◌≡◌, length};
-ghost use Rattle.machine.specs.Record.{DOUBLE_WORDS, LONGEST};
-ghost use Rattle.judge.specs.Judging.{answer_of, judging, explained_by};
+ghost use Rattle.std.specs.Prelude.{◌≤◌, ◌≡◌, length, IfOk};
+ghost use Rattle.judge.specs.Judging.{answer_of, judging, refused_by, explained_by};
 ghost use Rattle.judge.specs.Line.{line_of, text_of, hex as hex_lem};
-ghost use Rattle.judge.specs.Because.{because_text};
-ghost use Rattle.judge.specs.Work.{ruling_of_lem};
+ghost use Rattle.judge.specs.Work.{refused_no, program_of, ruling_of_lem};
 
 mod digits;
 mod lines;
 mod reasons;
 
-use card::{Answer, load};
-use checker::{Explanation, Outcome, Verdict, check, run};
+use card::load;
+use checker::{At, Explanation, Outcome, Verdict, Violation, check, run};
 use digits::digit;
 pub use lines::Line;
-use lines::{accepted, empty, refused, violation};
-use machine::Machine;
+use machine::{Machine, Refusal};
+pub use reasons::because;
 
-// What is said of a card.
+// What is said of a card. Its numbers are no enums of refusals and tests, since `line` promises a line for every number.
 #[derive(Clone, Copy)]
 pub enum Ruling {
     // The number of the refusal.
     Refused(u32),
     // The steps taken, and the DPC of the record that the run handed back.
     Accepted(u32, u32),
-    // The number of the test, the step, its DPC and its word (0 for 21 and 22).
-    Violation(u32, u32, u32, u32),
+    // The number of the test, and the step that breaks it (its word is 0 for 21 and 22).
+    Violation(u32, At),
+}
+
+// A loaded card: its record, and the buffers of code and data.
+#[derive(Clone, Copy)]
+struct Program {
+    machine: Machine,
+    code: [u32; Machine::WORDS],
+    words: [u32; Machine::WORDS],
+}
+
+fn loaded(card: &[u8]) -> Result<Program, Refusal>
+    ensures refused { refused_no result ≡ refused_by card.now }
+    ensures ok { IfOk result (λ program. program ≡ program_of card.now) }
+{
+    let mut code = [0; Machine::WORDS];
+    let mut words = [0; Machine::WORDS];
+    let mut memory = [0; Machine::DOUBLE_WORDS];
+    let loaded = load(card, &mut code, &mut words, &mut memory);
+    loaded.answer?;
+    Ok(Program {
+        machine: loaded.machine,
+        code,
+        words,
+    })
 }
 
 // Loads a card and runs it.
 pub fn judge(card: &[u8]) -> Ruling
     ensures { answer_of result ≡ judging card.now }
 {
-    let mut code = [0u32; Machine::WORDS];
-    let mut words = [0u32; Machine::WORDS];
-    let mut memory = [0u64; Machine::DOUBLE_WORDS];
-    judge_in(card, &mut code, &mut words, &mut memory)
-}
-
-// The same, in buffers of the right lengths.
-fn judge_in(card: &[u8], code: &mut [u32], words: &mut [u32], memory: &mut [u64]) -> Ruling
-    requires code_length { length code.old ≡ LONGEST }
-    requires data_length { length words.old ≡ LONGEST }
-    requires memory_length { length memory.old ≡ DOUBLE_WORDS }
-    ensures { answer_of result ≡ judging card.now }
-{
-    let loaded = load(card, code, words, memory);
-    let answer = loaded.answer;
-    match answer {
-        Answer::Refused(number) => Ruling::Refused(number),
-        Answer::Loaded => ruling_of(check(loaded.machine, code, words)),
+    match loaded(card) {
+        Ok(mut program) => check(program.machine, &program.code, &mut program.words).into(),
+        Err(refusal) => Ruling::Refused(refusal.number()),
     }
 }
 
-// A run's outcome as a ruling.
-fn ruling_of(outcome: Outcome) -> Ruling
-    ensures { answer_of result ≡ ruling_of_lem outcome.verdict outcome.machine.dpc }
-{
-    let verdict = outcome.verdict;
-    match verdict {
-        Verdict::Refused(number) => Ruling::Refused(number),
-        Verdict::Accepted(steps) => Ruling::Accepted(steps, outcome.machine.dpc),
-        Verdict::Violation(number, step, dpc, word) => Ruling::Violation(number, step, dpc, word),
-    }
-}
+impl From<Outcome> for Ruling {
+    ghost from_gives = { λ outcome ruling. answer_of ruling ≡ ruling_of_lem outcome.verdict outcome.machine.dpc };
 
-// Loads a card and runs it for where the bad address of its violation came from.
-pub fn explain(card: &[u8]) -> Explanation
-    ensures { result ≡ explained_by card.now }
-{
-    let mut code = [0u32; Machine::WORDS];
-    let mut words = [0u32; Machine::WORDS];
-    let mut memory = [0u64; Machine::DOUBLE_WORDS];
-    explain_in(card, &mut code, &mut words, &mut memory)
-}
-
-// The same, in buffers of the right lengths.
-fn explain_in(card: &[u8], code: &mut [u32], words: &mut [u32], memory: &mut [u64]) -> Explanation
-    requires code_length { length code.old ≡ LONGEST }
-    requires data_length { length words.old ≡ LONGEST }
-    requires memory_length { length memory.old ≡ DOUBLE_WORDS }
-    ensures { result ≡ explained_by card.now }
-{
-    let loaded = load(card, code, words, memory);
-    let answer = loaded.answer;
-    match answer {
-        Answer::Refused(_) => Explanation::None,
-        Answer::Loaded => {
-            let ran = run(loaded.machine, code, words);
-            ran.explanation
+    fn from(outcome: Outcome) -> Ruling {
+        match outcome.verdict {
+            Verdict::Refused(refusal) => Ruling::Refused(refusal.number()),
+            Verdict::Accepted(steps) => Ruling::Accepted(steps, outcome.machine.dpc),
+            Verdict::Violation(Violation { test, at }) => Ruling::Violation(test.number(), at),
         }
     }
 }
 
-// The line of a ruling. The second promise follows from the first; it stands here for `&bytes[..len]`.
+// Loads a card and runs it for where the bad address of its violation came from.
+pub fn explain(card: &[u8]) -> Option<Explanation>
+    ensures { result ≡ explained_by card.now }
+{
+    match loaded(card) {
+        Ok(mut program) => run(program.machine, &program.code, &mut program.words).explanation,
+        Err(_) => None,
+    }
+}
+
+// The line of a ruling: a function, and no Display, since it cannot fail and promises all of the line (`line_of`). The second
+// promise follows from the first; it stands here for `text`.
+#[tactic(auto, using(crate::proofs::Appending::texts), unfolding(crate::specs::Line::refused_text, crate::specs::Line::accepted_text, crate::specs::Line::violation_text))]
 pub fn line(ruling: Ruling) -> Line
     ensures value { result ≡ line_of (text_of ruling) }
     ensures len_in_bounds { result.len ≤ length result.bytes }
 {
     match ruling {
-        Ruling::Refused(number) => refused(number),
-        Ruling::Accepted(steps, dpc) => accepted(steps, dpc),
-        Ruling::Violation(number, step, dpc, word) => violation(number, step, dpc, word),
-    }
-}
-
-// The second line: the explanation of a violation, with its end; no byte where there is none.
-pub fn because(explanation: Explanation) -> Line
-    ensures value { result ≡ line_of (because_text explanation) }
-    ensures len_in_bounds { result.len ≤ length result.bytes }
-{
-    match explanation {
-        Explanation::None => empty(),
-        Explanation::Register(register, source) => reasons::of_register(register, source),
-        Explanation::Card => reasons::of_card(),
-        Explanation::RanOn => reasons::of_ran_on(),
-        Explanation::Transfer(step, dpc, word) => reasons::of_transfer(step, dpc, word),
-        Explanation::Jr(step, dpc, word, register, source) => reasons::of_jr(
-            step, dpc, word, register, source,
-        ),
+        Ruling::Refused(number) => Line::empty()
+            .put(b"refused ")
+            .put_decimal(number)
+            .put(b"\n"),
+        Ruling::Accepted(steps, dpc) => Line::empty()
+            .put(b"accepted ")
+            .put_decimal(steps)
+            .put(b" next ")
+            .put_hex(dpc)
+            .put(b"\n"),
+        Ruling::Violation(number, at) => Line::empty()
+            .put(b"violation ")
+            .put_decimal(number)
+            .put(b" step ")
+            .put_decimal(at.step)
+            .put(b" at ")
+            .put_hex(at.dpc)
+            .put(b" word ")
+            .put_word(number, at.word)
+            .put(b"\n"),
     }
 }
 
@@ -129,14 +120,9 @@ pub fn because(explanation: Explanation) -> Line
 pub fn hex(word: u32) -> [u8; 8]
     ensures { result ≡ hex_lem word }
 {
-    [
-        digit(word, 16, 7),
-        digit(word, 16, 6),
-        digit(word, 16, 5),
-        digit(word, 16, 4),
-        digit(word, 16, 3),
-        digit(word, 16, 2),
-        digit(word, 16, 1),
-        digit(word, 16, 0),
-    ]
+    let mut digits = [0; 8];
+    for (i, out) in digits.iter_mut().enumerate() {
+        *out = digit(word, 16, 7 - i as u32);
+    }
+    digits
 }

@@ -1,96 +1,72 @@
 // The second line: where the bad address of a violation came from.
-ghost use Rattle.std.specs.Prelude.{◌+◌, ◌≤◌, ◌≡◌, [], length};
+#![tactic(auto, using(crate::proofs::Appending::texts), unfolding(crate::specs::Because::step_text, crate::specs::Because::source_text, crate::specs::Because::from_text, crate::specs::Because::register_text, crate::specs::Because::card_text, crate::specs::Because::ran_on_text, crate::specs::Because::led_text, crate::specs::Because::transfer_text, crate::specs::Because::jr_text))]
+
+ghost use Rattle.std.specs.Prelude.{◌+◌, ◌≤◌, ◌≡◌, length};
 ghost use Rattle.judge.specs.Line.{SIZE, line_of};
-ghost use Rattle.judge.specs.Because.{BECAUSE, step_text, source_text, from_text, register_text, card_text, ran_on_text, led_text, transfer_text, jr_text};
-ghost use Rattle.judge.specs.Work.{STEP_BYTES, FROM_BYTES, LED_BYTES, appended};
+ghost use Rattle.judge.specs.Because.{because_text, step_text, source_text, from_text};
+ghost use Rattle.judge.specs.Work.{STEP_BYTES, FROM_BYTES, Extends};
 
-use crate::lines::{Line, empty, put, put_decimal, put_hex};
-use checker::Source;
+use crate::lines::Line;
+use checker::{At, Explanation, Source};
 
-pub(crate) fn of_register(register: u8, source: Source) -> Line
-    ensures { result ≡ line_of (register_text register source) }
+// The second line: the explanation of a violation, with its end; no byte where there is none.
+pub fn because(explanation: Option<Explanation>) -> Line
+    ensures value { result ≡ line_of (because_text explanation) }
+    ensures len_in_bounds { result.len ≤ length result.bytes }
 {
-    let line = put_from(start(), register, source);
-    put(line, b"\n")
-}
-
-pub(crate) fn of_card() -> Line
-    ensures { result ≡ line_of card_text }
-{
-    let line = put(start(), b"dpc from card");
-    put(line, b"\n")
-}
-
-pub(crate) fn of_ran_on() -> Line
-    ensures { result ≡ line_of ran_on_text }
-{
-    let line = put(start(), b"dpc ran on");
-    put(line, b"\n")
-}
-
-pub(crate) fn of_transfer(step: u32, dpc: u32, word: u32) -> Line
-    ensures { result ≡ line_of (transfer_text step dpc word) }
-{
-    put(led(step, dpc, word), b"\n")
-}
-
-pub(crate) fn of_jr(step: u32, dpc: u32, word: u32, register: u8, source: Source) -> Line
-    ensures { result ≡ line_of (jr_text step dpc word register source) }
-{
-    let mut line = put(led(step, dpc, word), b", ");
-    line = put_from(line, register, source);
-    put(line, b"\n")
-}
-
-fn start() -> Line
-    ensures value { result ≡ appended (line_of []) BECAUSE }
-    ensures len_value { result.len ≡ length BECAUSE }
-{
-    put(empty(), b"because ")
-}
-
-// The line as far as the taken transfer that led there.
-fn led(step: u32, dpc: u32, word: u32) -> Line
-    ensures value { result ≡ appended (line_of []) (led_text step dpc word) }
-    ensures len_bound { result.len ≤ LED_BYTES }
-{
-    let line = put(start(), b"dpc from ");
-    put_step(line, step, dpc, word)
-}
-
-// A register and where its value came from.
-fn put_from(line: Line, register: u8, source: Source) -> Line
-    requires { line.len + FROM_BYTES ≤ SIZE }
-    ensures value { result ≡ appended line (from_text register source) }
-    ensures len_bound { result.len ≤ line.len + FROM_BYTES }
-{
-    let mut out = put(line, b"r");
-    out = put_decimal(out, register as u32);
-    out = put(out, b" from ");
-    put_source(out, source)
-}
-
-fn put_source(line: Line, source: Source) -> Line
-    requires { line.len + STEP_BYTES ≤ SIZE }
-    ensures value { result ≡ appended line (source_text source) }
-    ensures len_bound { result.len ≤ line.len + STEP_BYTES }
-{
-    match source {
-        Source::Card => put(line, b"card"),
-        Source::Zero => put(line, b"zero"),
-        Source::Step(step, dpc, word) => put_step(line, step, dpc, word),
+    let Some(reason) = explanation else {
+        return Line::empty();
+    };
+    let start = Line::empty().put(b"because ");
+    match reason {
+        Explanation::Register(register, source) => start.put_from(register, source).put(b"\n"),
+        Explanation::Card => start.put(b"dpc from card").put(b"\n"),
+        Explanation::RanOn => start.put(b"dpc ran on").put(b"\n"),
+        Explanation::Transfer(at) => start.put(b"dpc from ").put_step(at).put(b"\n"),
+        Explanation::Jr(at, register, source) => start
+            .put(b"dpc from ")
+            .put_step(at)
+            .put(b", ")
+            .put_from(register, source)
+            .put(b"\n"),
     }
 }
 
-fn put_step(line: Line, step: u32, dpc: u32, word: u32) -> Line
-    requires { line.len + STEP_BYTES ≤ SIZE }
-    ensures value { result ≡ appended line (step_text step dpc word) }
-    ensures len_bound { result.len ≤ line.len + STEP_BYTES }
-{
-    let mut out = put(line, b"step ");
-    out = put_decimal(out, step);
-    out = put(out, b" at ");
-    out = put_hex(out, dpc);
-    out = put(out, b" word ");
-    put_hex(out, word)
+impl Line {
+    // A register and where its value came from.
+    fn put_from(self, register: u8, source: Source) -> Line
+        requires { self.len + FROM_BYTES ≤ SIZE }
+        ensures value { Extends self result (from_text register source) }
+        ensures len_bound { result.len ≤ self.len + FROM_BYTES }
+    {
+        self.put(b"r")
+            .put_decimal(register as u32)
+            .put(b" from ")
+            .put_source(source)
+    }
+
+    fn put_source(self, source: Source) -> Line
+        requires { self.len + STEP_BYTES ≤ SIZE }
+        ensures value { Extends self result (source_text source) }
+        ensures len_bound { result.len ≤ self.len + STEP_BYTES }
+    {
+        match source {
+            Source::Card => self.put(b"card"),
+            Source::Zero => self.put(b"zero"),
+            Source::Step(at) => self.put_step(at),
+        }
+    }
+
+    fn put_step(self, at: At) -> Line
+        requires { self.len + STEP_BYTES ≤ SIZE }
+        ensures value { Extends self result (step_text at) }
+        ensures len_bound { result.len ≤ self.len + STEP_BYTES }
+    {
+        self.put(b"step ")
+            .put_decimal(at.step)
+            .put(b" at ")
+            .put_hex(at.dpc)
+            .put(b" word ")
+            .put_hex(at.word)
+    }
 }

@@ -2,7 +2,7 @@
 // bytes and the two words of a double word.
 #![tactic(auto)]
 
-ghost use Rattle.std.specs.Prelude.{◌≡◌, ◌+◌, ◌*◌, ◌/◌, ◌%◌, ◌^◌, ◌<◌, ◌≤◌, length, take, OnOk, IfOk};
+ghost use Rattle.std.specs.Prelude.{◌≡◌, ◌+◌, ◌*◌, ◌/◌, ◌%◌, ◌^◌, ◌<◌, ◌≤◌, ◌++◌, length, take, OnOk, IfOk};
 ghost use Rattle.std.specs.Fmt.{decimal};
 ghost use Rattle.std.specs.Io.{ReadsAtMost};
 ghost use Rattle.std.specs.Io.KnownBytes.{Appends, Consumes, IsAtEnd};
@@ -22,10 +22,8 @@ pub const ROOM: usize = card::LONGEST + 1;
 // The general registers, and as many special ones.
 pub const REGISTERS: usize = 32;
 
-// What the upper word of a double word is worth: 2^32.
-const UPPER: u64 = 4294967296;
-
-// Reads until the buffer is full or the input ends; how many bytes came.
+// Reads until the buffer is full or the input ends; how many bytes came. std's read_exact would refuse a card that is shorter than
+// the buffer, and its read_to_end wants a heap.
 pub fn read_full<R: Read>(input: &mut R, buffer: &mut [u8]) -> io::Result<usize>
     ensures bound { ReadsAtMost result buffer.new }
     ensures bytes { IfOk result (λ n. Consumes (R.remaining input.old) (R.remaining input.new) (take n buffer.new)) }
@@ -33,11 +31,10 @@ pub fn read_full<R: Read>(input: &mut R, buffer: &mut [u8]) -> io::Result<usize>
 {
     let mut done = 0;
     while done < buffer.len() {
-        let n = input.read(&mut buffer[done..])?;
-        if n == 0 {
-            return Ok(done);
+        match input.read(&mut buffer[done..])? {
+            0 => return Ok(done),
+            n => done += n,
         }
-        done += n;
     }
     Ok(done)
 }
@@ -55,64 +52,68 @@ pub fn put_number<W: Write>(out: &mut W, n: u64) -> io::Result<()>
     write!(out, "{n}")
 }
 
+// A number behind its name.
+pub fn put_named<W: Write>(out: &mut W, name: &[u8], number: u32) -> io::Result<()>
+    ensures { OnOk result (Appends (W.contents out.old) (W.contents out.new) (name.now ++ decimal number)) }
+{
+    put(out, name)?;
+    put_number(out, u64::from(number))
+}
+
 // Eight capital hex digits.
 pub fn put_word<W: Write>(out: &mut W, word: u32) -> io::Result<()>
     ensures { OnOk result (Appends (W.contents out.old) (W.contents out.new) (hex_lem word)) }
 {
-    let digits = hex(word);
-    put(out, &digits)
+    put(out, &hex(word))
 }
 
 // The verdict line of a ruling, without its end.
 pub fn put_ruling<W: Write>(out: &mut W, ruling: Ruling) -> io::Result<()>
     ensures { OnOk result (Appends (W.contents out.old) (W.contents out.new) (unended (line_of (text_of ruling)))) }
 {
-    put_unended(out, line(ruling))
+    put_unended(out, &line(ruling))
 }
 
 // A blank and the second line, that of an explanation, without its end; nothing where there is none.
-pub fn put_because<W: Write>(out: &mut W, explanation: Explanation) -> io::Result<()>
+pub fn put_because<W: Write>(out: &mut W, explanation: Option<Explanation>) -> io::Result<()>
     ensures { OnOk result (Appends (W.contents out.old) (W.contents out.new) (behind_blank (line_of (because_text explanation)))) }
 {
-    let written = because(explanation);
-    if written.len == 0 {
+    let line = because(explanation);
+    if line.len == 0 {
         return Ok(());
     }
     put(out, b" ")?;
-    put_unended(out, written)
+    put_unended(out, &line)
 }
 
 // A line without its last byte.
-fn put_unended<W: Write>(out: &mut W, written: Line) -> io::Result<()>
-    requires { written.len ≤ length written.bytes }
-    ensures { OnOk result (Appends (W.contents out.old) (W.contents out.new) (unended written)) }
+fn put_unended<W: Write>(out: &mut W, line: &Line) -> io::Result<()>
+    requires { line.now.len ≤ length line.now.bytes }
+    ensures { OnOk result (Appends (W.contents out.old) (W.contents out.new) (unended line.now)) }
 {
-    let len = written.len;
-    let bytes = written.bytes;
-    if len == 0 {
-        return Ok(());
+    match line.text().split_last() {
+        Some((_, front)) => put(out, front),
+        None => Ok(()),
     }
-    let end = len - 1;
-    put(out, &bytes[..end])
 }
 
 // The word of four bytes, the lowest first.
 pub fn word(a: u8, b: u8, c: u8, d: u8) -> u32
     ensures { result ≡ a + 2 ^ 8 * b + 2 ^ 16 * c + 2 ^ 24 * d }
 {
-    a as u32 + 256 * (b as u32) + 65536 * (c as u32) + 16777216 * (d as u32)
+    u32::from_le_bytes([a, b, c, d])
 }
 
 // The word at the lower address of a double word.
 pub fn lower(double: u64) -> u32
     ensures { result ≡ double % 2 ^ 32 }
 {
-    (double % UPPER) as u32
+    (double % (1 << 32)) as u32
 }
 
 // The word at the higher address of a double word.
 pub fn upper(double: u64) -> u32
     ensures { result ≡ double / 2 ^ 32 }
 {
-    (double / UPPER) as u32
+    (double >> 32) as u32
 }

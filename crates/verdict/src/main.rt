@@ -13,8 +13,5 @@ fn main(rt: HostRuntime) -> io::Result<()> {
 
 fn answer<R: Read, W: Write>(input: &mut R, out: &mut W, card: &mut [u8]) -> io::Result<()> {
     let n = read_full(input, card)?;
-    let written = line(judge(&card[..n]));
-    let len = written.len;
-    let bytes = written.bytes;
-    put(out, &bytes[..len])
+    put(out, line(judge(&card[..n])).text())
 }

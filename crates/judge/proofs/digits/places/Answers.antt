@@ -1,44 +1,45 @@
-use borrow.Author.Tests.{lt-ltb, le-ltb}
+use Prim.Native.Nat.{ℕ, zero, suc, ◌-◌, ◌^◌, ◌≤◌, ◌<◌}
+use mathlib.Core.Path.{◌≡◌}
+use mathlib.Core.Logic.{◌⊎◌, inl, inr}
+use native.Mathlib.Nat.{pow-le-pow_right, one-le-pow}
 use native.Mathlib.Omega.{arith}
+use Rattle.std.proofs.lemmas.Bool.{cases_lt}
 use Rattle.judge.specs.Digits.{places}
+use Rattle.judge.proofs.Decides.{places_hold, places_fewest}
 use Rattle.judge.proofs.digits.places.Goals as goal
 
-pub returns-then-n-lt10 : goal.returns-then-n-lt10
-unfolding places
-returns-then-n-lt10 c = record { value = rw (lt-ltb _ _ c.if-n-lt10.true); upper_bound = omega arith }
+-- Digits that hold a number are no fewer than those that it needs
+enough : (n p q : ℕ) → n < 10 ^ p → 10 ^ (q - 1) ≤ n → q ≤ p
+enough n p q held needed = by (cases_lt p q)
+  where
+    by : (p < q) ⊎ (q ≤ p) → q ≤ p
+    by (inl l) = let more : 10 ^ p ≤ 10 ^ (q - 1) = pow-le-pow_right {n = 10} (omega arith) {i = p} {j = q - 1} (omega arith) in absurd (omega arith)
+    by (inr l) = l
 
-pub returns-then-n-lt100 : goal.returns-then-n-lt100
-unfolding places
-returns-then-n-lt100 c = record { value = rw (le-ltb _ _ c.if-n-lt10.false, lt-ltb _ _ c.if-n-lt100.true); upper_bound = omega arith }
+-- A number above 0 needs the digits before its last
+more : (n k : ℕ) → 0 < n → 1 ≤ k → (2 ≤ k → 10 ^ (k - 1) ≤ n) → 10 ^ (k - 1) ≤ n
+more n k above some needed = by (cases_lt k 2)
+  where
+    by : (k < 2) ⊎ (2 ≤ k) → 10 ^ (k - 1) ≤ n
+    by (inl l) = let one : k ≡ 1 = omega arith in rw one above
+    by (inr l) = needed l
 
-pub returns-then-n-lt1000 : goal.returns-then-n-lt1000
+counted : (n k : ℕ) → n < 10 ^ 10 → 1 ≤ k → n < 10 ^ k → (2 ≤ k → 10 ^ (k - 1) ≤ n) → k ≡ places n
 unfolding places
-returns-then-n-lt1000 c = record { value = rw (le-ltb _ _ c.if-n-lt10.false, le-ltb _ _ c.if-n-lt100.false, lt-ltb _ _ c.if-n-lt1000.true); upper_bound = omega arith }
+counted zero k small some held needed = by (cases_lt k 2)
+  where
+    by : (k < 2) ⊎ (2 ≤ k) → k ≡ 1
+    by (inl l) = omega arith
+    by (inr l) = let one = one-le-pow (k - 1) 10 (omega arith) in let none = needed l in absurd (omega arith)
+counted (suc n) k small some held needed =
+    let above : k ≤ places (suc n) = enough (suc n) (places (suc n)) k (places_hold (suc n) small) (more (suc n) k (omega arith) some needed) in
+    let below : places (suc n) ≤ k = enough (suc n) k (places (suc n)) held (places_fewest (suc n) (omega arith)) in
+    omega arith
 
-pub returns-then-n-lt10000 : goal.returns-then-n-lt10000
-unfolding places
-returns-then-n-lt10000 c = record { value = rw (le-ltb _ _ c.if-n-lt10.false, le-ltb _ _ c.if-n-lt100.false, le-ltb _ _ c.if-n-lt1000.false, lt-ltb _ _ c.if-n-lt10000.true); upper_bound = omega arith }
+pub returns-then-n-pow-clause-value : goal.returns-then-n-pow-clause-value
+returns-then-n-pow-clause-value c = counted c.args.n c.loop-count.count (omega arith) (omega arith) (omega arith) c.loop-count.invariant.1
 
-pub returns-then-n-lt100000 : goal.returns-then-n-lt100000
-unfolding places
-returns-then-n-lt100000 c = record { value = rw (le-ltb _ _ c.if-n-lt10.false, le-ltb _ _ c.if-n-lt100.false, le-ltb _ _ c.if-n-lt1000.false, le-ltb _ _ c.if-n-lt10000.false, lt-ltb _ _ c.if-n-lt100000.true); upper_bound = omega arith }
-
-pub returns-then-n-lt1000000 : goal.returns-then-n-lt1000000
-unfolding places
-returns-then-n-lt1000000 c = record { value = rw (le-ltb _ _ c.if-n-lt10.false, le-ltb _ _ c.if-n-lt100.false, le-ltb _ _ c.if-n-lt1000.false, le-ltb _ _ c.if-n-lt10000.false, le-ltb _ _ c.if-n-lt100000.false, lt-ltb _ _ c.if-n-lt1000000.true); upper_bound = omega arith }
-
-pub returns-then-n-lt10000000 : goal.returns-then-n-lt10000000
-unfolding places
-returns-then-n-lt10000000 c = record { value = rw (le-ltb _ _ c.if-n-lt10.false, le-ltb _ _ c.if-n-lt100.false, le-ltb _ _ c.if-n-lt1000.false, le-ltb _ _ c.if-n-lt10000.false, le-ltb _ _ c.if-n-lt100000.false, le-ltb _ _ c.if-n-lt1000000.false, lt-ltb _ _ c.if-n-lt10000000.true); upper_bound = omega arith }
-
-pub returns-then-n-lt100000000 : goal.returns-then-n-lt100000000
-unfolding places
-returns-then-n-lt100000000 c = record { value = rw (le-ltb _ _ c.if-n-lt10.false, le-ltb _ _ c.if-n-lt100.false, le-ltb _ _ c.if-n-lt1000.false, le-ltb _ _ c.if-n-lt10000.false, le-ltb _ _ c.if-n-lt100000.false, le-ltb _ _ c.if-n-lt1000000.false, le-ltb _ _ c.if-n-lt10000000.false, lt-ltb _ _ c.if-n-lt100000000.true); upper_bound = omega arith }
-
-pub returns-then-n-lt1000000000 : goal.returns-then-n-lt1000000000
-unfolding places
-returns-then-n-lt1000000000 c = record { value = rw (le-ltb _ _ c.if-n-lt10.false, le-ltb _ _ c.if-n-lt100.false, le-ltb _ _ c.if-n-lt1000.false, le-ltb _ _ c.if-n-lt10000.false, le-ltb _ _ c.if-n-lt100000.false, le-ltb _ _ c.if-n-lt1000000.false, le-ltb _ _ c.if-n-lt10000000.false, le-ltb _ _ c.if-n-lt100000000.false, lt-ltb _ _ c.if-n-lt1000000000.true); upper_bound = omega arith }
-
-pub returns : goal.returns
-unfolding places
-returns c = record { value = rw (le-ltb _ _ c.if-n-lt10.false, le-ltb _ _ c.if-n-lt100.false, le-ltb _ _ c.if-n-lt1000.false, le-ltb _ _ c.if-n-lt10000.false, le-ltb _ _ c.if-n-lt100000.false, le-ltb _ _ c.if-n-lt1000000.false, le-ltb _ _ c.if-n-lt10000000.false, le-ltb _ _ c.if-n-lt100000000.false, le-ltb _ _ c.if-n-lt1000000000.false); upper_bound = omega arith }
+pub returns-clause-value : goal.returns-clause-value
+returns-clause-value c =
+    let last : c.loop-count.count ≡ 10 = omega arith in
+    counted c.args.n 10 (omega arith) (omega arith) (omega arith) (rw (last) at c.loop-count.invariant.1)

@@ -1,9 +1,0 @@
-use mathlib.Core.Path.{◌∙◌}
-use Rattle.judge.proofs.Ruled.{refused_ruling, run_ruling}
-use Rattle.judge.proofs.judge_in.Goals as goal
-
-pub returns-in-Refused : goal.returns-in-Refused
-returns-in-Refused c = refused_ruling c.args.card.now c.args.code.now c.args.words.now c.args.memory.now c.requires.code_length c.requires.data_length c.requires.memory_length c.load-loaded.result _ _ _ c.load-loaded.ensures _ c.in-Refused.is
-
-pub returns-in-Loaded : goal.returns-in-Loaded
-returns-in-Loaded c = c.ruling_of.ensures ∙ run_ruling c.args.card.now c.args.code.now c.args.words.now c.args.memory.now c.requires.code_length c.requires.data_length c.requires.memory_length c.load-loaded.result _ _ _ c.load-loaded.ensures c.in-Loaded.is c.check.result _ c.check.ensures
