@@ -1,87 +1,48 @@
 // The calls of the checker.
-use crate::changes::put_named;
 use crate::memory::lent;
-use crate::places::{CODE, CODE_LENGTH, DATA, DATA_LENGTH, WORDS};
+use crate::places::{CODE, CODE_LENGTH, DATA, DATA_LENGTH, Places, WORDS};
 use crate::reasons::{put_at, put_explanation};
-use crate::records::{keep, keep_record, record_of, take};
-use checker::{Outcome, Verdict, check, run, step};
+use crate::records::{keep_record, record_of};
+use checker::{Explained, Outcome, Verdict};
+use machine::Machine;
+use show::put_named;
 use std::io;
 use std::io::Write;
 
-// How a record is run: one step, without the explanation, or with it.
-#[derive(Clone, Copy)]
-pub(crate) enum Way {
-    Step,
-    Check,
-    Run,
-}
-
-pub(crate) fn put_checker<W: Write>(out: &mut W, way: Way, places: &mut [u32]) -> io::Result<()> {
-    let mut code = [0u32; WORDS];
-    let mut words = [0u32; WORDS];
-    take(places, CODE, &mut code);
-    take(places, DATA, &mut words);
-    lend(out, way, &code, &mut words, places)?;
-    keep(&words, DATA, places);
-    Ok(())
-}
-
-// Lends as much of the buffers as the call says.
-fn lend<W: Write>(
+// Makes a call on the record and on as much of the buffers as the places say, which lie in the places themselves.
+pub(crate) fn put_checker<W: Write, F: FnOnce(Machine, &[u32], &mut [u32]) -> Explained>(
     out: &mut W,
-    way: Way,
-    code: &[u32],
-    words: &mut [u32],
-    places: &mut [u32],
-) -> io::Result<()> {
-    let c = lent(places, CODE_LENGTH, code.len());
-    let d = lent(places, DATA_LENGTH, words.len());
-    match way {
-        Way::Step => put_outcome(
-            out,
-            step(record_of(places), &code[0..c], &mut words[0..d]),
-            places,
-        ),
-        Way::Check => put_outcome(
-            out,
-            check(record_of(places), &code[0..c], &mut words[0..d]),
-            places,
-        ),
-        Way::Run => put_run(out, &code[0..c], &mut words[0..d], places),
+    call: F,
+    places: &mut Places,
+) -> io::Result<()>
+    requires { F.IsAlwaysCallable call }
+{
+    let machine = record_of(places);
+    let c = lent(places[CODE_LENGTH], WORDS);
+    let d = lent(places[DATA_LENGTH], WORDS);
+    let (before, from_data) = places.split_at_mut(DATA);
+    let ran = call(machine, &before[CODE..CODE + c], &mut from_data[..d]);
+    keep_record(&ran.machine, places);
+    put_verdict(out, ran.verdict)?;
+    put_explanation(out, ran.explanation)
+}
+
+// What a call answers that gives no explanation.
+pub(crate) fn unexplained(outcome: Outcome) -> Explained {
+    Explained {
+        verdict: outcome.verdict,
+        machine: outcome.machine,
+        explanation: None,
     }
-}
-
-fn put_outcome<W: Write>(out: &mut W, outcome: Outcome, places: &mut [u32]) -> io::Result<()> {
-    let verdict = outcome.verdict;
-    let after = outcome.machine;
-    put_verdict(out, verdict)?;
-    keep_record(after, places);
-    Ok(())
-}
-
-fn put_run<W: Write>(
-    out: &mut W,
-    code: &[u32],
-    words: &mut [u32],
-    places: &mut [u32],
-) -> io::Result<()> {
-    let ran = run(record_of(places), code, words);
-    let verdict = ran.verdict;
-    let explanation = ran.explanation;
-    let after = ran.machine;
-    put_verdict(out, verdict)?;
-    put_explanation(out, explanation)?;
-    keep_record(after, places);
-    Ok(())
 }
 
 fn put_verdict<W: Write>(out: &mut W, verdict: Verdict) -> io::Result<()> {
     match verdict {
-        Verdict::Refused(number) => put_named(out, b"refused ", number),
+        Verdict::Refused(refusal) => put_named(out, b"refused ", refusal.number()),
         Verdict::Accepted(steps) => put_named(out, b"accepted ", steps),
-        Verdict::Violation(number, step, dpc, word) => {
-            put_named(out, b"violation ", number)?;
-            put_at(out, step, dpc, word)
+        Verdict::Violation(violation) => {
+            put_named(out, b"violation ", violation.test.number())?;
+            put_at(out, violation.at)
         }
     }
 }

@@ -1,7 +1,7 @@
 // The inputs of a call, read into places. Each is three numbers: a place, a count, and what so many places from there on take.
-use crate::places::{CODE_LENGTH, DATA_LENGTH, MEMORY_LENGTH, set};
+use crate::places::{CODE_LENGTH, DATA_LENGTH, MEMORY_LENGTH, PLACES, Places};
 use machine::Machine;
-use show::{read_full, word};
+use show::read_full;
 use std::io;
 use std::io::Read;
 
@@ -11,15 +11,11 @@ const INPUT: usize = 12;
 pub(crate) fn take_inputs<R: Read>(
     input: &mut R,
     count: u32,
-    given: &mut [u32],
+    given: &mut Places,
 ) -> io::Result<bool> {
-    set(given, CODE_LENGTH, Machine::WORDS as u32);
-    set(given, DATA_LENGTH, Machine::WORDS as u32);
-    set(given, MEMORY_LENGTH, Machine::DOUBLE_WORDS as u32);
-    take_all(input, count, given)
-}
-
-fn take_all<R: Read>(input: &mut R, count: u32, given: &mut [u32]) -> io::Result<bool> {
+    given[CODE_LENGTH] = Machine::WORDS as u32;
+    given[DATA_LENGTH] = Machine::WORDS as u32;
+    given[MEMORY_LENGTH] = Machine::DOUBLE_WORDS as u32;
     for _ in 0..count {
         if !take_one(input, given)? {
             return Ok(false);
@@ -28,28 +24,16 @@ fn take_all<R: Read>(input: &mut R, count: u32, given: &mut [u32]) -> io::Result
     Ok(true)
 }
 
-fn take_one<R: Read>(input: &mut R, given: &mut [u32]) -> io::Result<bool> {
+fn take_one<R: Read>(input: &mut R, given: &mut Places) -> io::Result<bool> {
     let mut bytes = [0u8; INPUT];
     if read_full(input, &mut bytes)? < INPUT {
         return Ok(false);
     }
-    let place = word(bytes[0], bytes[1], bytes[2], bytes[3]);
-    let count = word(bytes[4], bytes[5], bytes[6], bytes[7]);
-    let value = word(bytes[8], bytes[9], bytes[10], bytes[11]);
-    fill(given, place as usize, end_of(place, count), value);
+    let (numbers, _) = bytes.as_chunks::<4>();
+    let place = u32::from_le_bytes(numbers[0]) as usize;
+    let count = u32::from_le_bytes(numbers[1]) as usize;
+    let from = place.min(PLACES);
+    let to = (place + count).min(PLACES);
+    given[from..to].fill(u32::from_le_bytes(numbers[2]));
     Ok(true)
-}
-
-fn end_of(place: u32, count: u32) -> usize {
-    place as usize + count as usize
-}
-
-// The places from one to before another, as far as there are places.
-fn fill(given: &mut [u32], from: usize, to: usize, value: u32) {
-    for i in from..given.len() {
-        if i >= to {
-            return;
-        }
-        given[i] = value;
-    }
 }

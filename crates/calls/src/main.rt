@@ -19,9 +19,8 @@ mod told;
 use calls::perform;
 use changes::put_changes;
 use inputs::take_inputs;
-use places::PLACES;
-use records::keep;
-use show::{put, read_full, word};
+use places::{PLACES, Places};
+use show::{put, read_full};
 use std::io;
 use std::io::{Read, Write};
 
@@ -36,6 +35,7 @@ fn main(rt: HostRuntime) -> io::Result<()> {
     all(&mut rt.stdin(), &mut rt.stdout(), &mut name)
 }
 
+// This loop and `cut` stand in practice_test too, each with the program's own text: a function for both would promise nothing.
 fn all<R: Read, W: Write>(input: &mut R, out: &mut W, name: &mut [u8]) -> io::Result<()> {
     for _ in 0..CALLS {
         if !one(input, out, name)? {
@@ -52,15 +52,13 @@ fn one<R: Read, W: Write>(input: &mut R, out: &mut W, name: &mut [u8]) -> io::Re
     if got == 0 {
         return Ok(false);
     }
-    let length = word(head[0], head[1], head[2], head[3]) as usize;
-    let inputs = word(head[4], head[5], head[6], head[7]);
-    if got < 8 {
+    let (numbers, _) = head.as_chunks::<4>();
+    let length = u32::from_le_bytes(numbers[0]) as usize;
+    let inputs = u32::from_le_bytes(numbers[1]);
+    if got < 8 || length > name.len() {
         return cut(out);
     }
-    if length > name.len() {
-        return cut(out);
-    }
-    named(input, out, &mut name[0..length], inputs)
+    named(input, out, &mut name[..length], inputs)
 }
 
 // An input that ends inside a call has to show in the output; nothing follows it.
@@ -75,11 +73,8 @@ fn named<R: Read, W: Write>(
     name: &mut [u8],
     inputs: u32,
 ) -> io::Result<bool> {
-    if read_full(input, name)? < name.len() {
-        return cut(out);
-    }
     let mut given = [0u32; PLACES];
-    if !take_inputs(input, inputs, &mut given)? {
+    if read_full(input, name)? < name.len() || !take_inputs(input, inputs, &mut given)? {
         return cut(out);
     }
     put(out, name)?;
@@ -87,9 +82,8 @@ fn named<R: Read, W: Write>(
     Ok(true)
 }
 
-fn put_answer<W: Write>(out: &mut W, given: &[u32]) -> io::Result<()> {
-    let mut left = [0u32; PLACES];
-    keep(given, 0, &mut left);
+fn put_answer<W: Write>(out: &mut W, given: &Places) -> io::Result<()> {
+    let mut left = *given;
     perform(out, &mut left)?;
     put_changes(out, given, &left)?;
     put(out, b"\n")

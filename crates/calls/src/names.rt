@@ -1,51 +1,54 @@
-// The names of the format, in tables of words with a blank between two: a name is known by its place in its table.
-ghost use Rattle.std.specs.Prelude.{◌≤◌, length};
+// The mnemonics of document 01's groups, by which the format names instructions. That of an immediate form has an i at its end, or
+// before the o of one that may overflow.
+use words::{Arithmetic, Comparison, LoadKind, Shift, StoreKind};
 
-use show::put;
-use std::io;
-use std::io::Write;
-
-const BLANK: u8 = 32;
-
-// The places that are one word each, in their order.
-pub(crate) const NUMBERS: [u8; 56] = *b"code-start code-words data-start data-words limit dpc pc";
-
-// The places that are arrays, in their order.
-pub(crate) const ARRAYS: [u8; 22] = *b"r spr code data memory";
-
-// Document 01's mnemonics, in its order.
-pub(crate) const MNEMONICS: [u8; 254] = *b"slli slai srli srai sll sla srl sra movs2i movi2s \
-    addo add subo sub and or xor lhg clr sgr seq sge sls sne sle set j jal trap rfe beqz bnez \
-    addio addi subio subi andi ori xori lhgi jr jalr clri sgri seqi sgei slsi snei slei seti \
-    lb lh lw lbu lhu sb sh sw";
-
-pub(crate) fn put_name<W: Write>(out: &mut W, names: &[u8], n: u32) -> io::Result<()> {
-    let mut at = 0;
-    let mut left = n;
-    while at < names.len() {
-        let end = name_end(names, at);
-        if left == 0 {
-            return put(out, &names[at..end]);
-        }
-        left -= 1;
-        if end == names.len() {
-            break;
-        }
-        at = end + 1;
+pub(crate) fn shift(member: Shift) -> &'static str {
+    match member {
+        Shift::Sll => "sll",
+        Shift::Sla => "sla",
+        Shift::Srl => "srl",
+        Shift::Sra => "sra",
     }
-    Ok(())
 }
 
-// Where the name that starts at `from` ends: at a blank, or with the table.
-fn name_end(names: &[u8], from: usize) -> usize
-    requires { from ≤ length names.now }
-    ensures lower_bound { from ≤ result }
-    ensures upper_bound { result ≤ length names.now }
-{
-    for i in from..names.len() {
-        if names[i] == BLANK {
-            return i;
-        }
+// The mnemonic without its o, and the o.
+pub(crate) fn arithmetic(member: Arithmetic) -> (&'static str, &'static str) {
+    match member {
+        Arithmetic::Addo => ("add", "o"),
+        Arithmetic::Add => ("add", ""),
+        Arithmetic::Subo => ("sub", "o"),
+        Arithmetic::Sub => ("sub", ""),
+        Arithmetic::And => ("and", ""),
+        Arithmetic::Or => ("or", ""),
+        Arithmetic::Xor => ("xor", ""),
     }
-    names.len()
+}
+
+pub(crate) fn comparison(member: Comparison) -> &'static str {
+    match member {
+        Comparison::Sgr => "sgr",
+        Comparison::Seq => "seq",
+        Comparison::Sge => "sge",
+        Comparison::Sls => "sls",
+        Comparison::Sne => "sne",
+        Comparison::Sle => "sle",
+    }
+}
+
+pub(crate) fn load(member: LoadKind) -> &'static str {
+    match member {
+        LoadKind::Lb => "lb",
+        LoadKind::Lh => "lh",
+        LoadKind::Lw => "lw",
+        LoadKind::Lbu => "lbu",
+        LoadKind::Lhu => "lhu",
+    }
+}
+
+pub(crate) fn store(member: StoreKind) -> &'static str {
+    match member {
+        StoreKind::Sb => "sb",
+        StoreKind::Sh => "sh",
+        StoreKind::Sw => "sw",
+    }
 }

@@ -1,8 +1,8 @@
 // What a call is given, and what it leaves, is an array of words. A place is an index of it.
-use crate::names::{ARRAYS, NUMBERS, put_name};
-use show::put_number;
 use std::io;
 use std::io::Write;
+
+pub(crate) type Places = [u32; PLACES];
 
 // The record's numbers.
 pub(crate) const CODE_START: usize = 0;
@@ -59,34 +59,58 @@ pub(crate) const DOUBLE_WORDS: usize = 2049;
 
 pub(crate) const BYTES: usize = 16384;
 
+// The names of the record's numbers, in their order.
+const NUMBERS: [&str; 7] = [
+    "code-start",
+    "code-words",
+    "data-start",
+    "data-words",
+    "limit",
+    "dpc",
+    "pc",
+];
+
+// An array of places: its name, and its first place.
+struct Array {
+    name: &'static str,
+    start: usize,
+}
+
+// The last first.
+const ARRAYS: [Array; 5] = [
+    Array {
+        name: "memory",
+        start: MEMORY,
+    },
+    Array {
+        name: "data",
+        start: DATA,
+    },
+    Array {
+        name: "code",
+        start: CODE,
+    },
+    Array {
+        name: "spr",
+        start: SPR,
+    },
+    Array {
+        name: "r",
+        start: R,
+    },
+];
+
+// The name of a place that a call may change.
 pub(crate) fn put_place<W: Write>(out: &mut W, place: usize) -> io::Result<()> {
-    if place < R {
-        put_name(out, &NUMBERS, place as u32)
-    } else if place < SPR {
-        put_entry(out, 0, place - R)
-    } else if place < CODE {
-        put_entry(out, 1, place - SPR)
-    } else if place < DATA {
-        put_entry(out, 2, place - CODE)
-    } else if place < MEMORY {
-        put_entry(out, 3, place - DATA)
-    } else {
-        put_entry(out, 4, place - MEMORY)
+    if let Some(name) = NUMBERS.get(place) {
+        return write!(out, "{name}");
     }
-}
-
-fn put_entry<W: Write>(out: &mut W, array: u32, index: usize) -> io::Result<()> {
-    put_name(out, &ARRAYS, array)?;
-    put_number(out, index as u64)
-}
-
-// What a place holds.
-pub(crate) fn at(given: &[u32], place: usize) -> u32 {
-    if place < given.len() { given[place] } else { 0 }
-}
-
-pub(crate) fn set(given: &mut [u32], place: usize, value: u32) {
-    if place < given.len() {
-        given[place] = value;
+    for array in &ARRAYS {
+        if array.start <= place {
+            let name = array.name;
+            let index = place - array.start;
+            return write!(out, "{name}{index}");
+        }
     }
+    Ok(())
 }

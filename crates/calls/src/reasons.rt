@@ -1,56 +1,51 @@
 // An explanation as text, value by value: the words of the second line, with each word of 32 bits as the format writes it.
-use crate::changes::{put_hex, put_named};
-use checker::{Explanation, Source};
+use checker::{At, Explanation, Source};
 use show::put;
 use std::io;
 use std::io::Write;
 
 // Nothing where there is none.
-pub(crate) fn put_explanation<W: Write>(out: &mut W, explanation: Explanation) -> io::Result<()> {
+pub(crate) fn put_explanation<W: Write>(
+    out: &mut W,
+    explanation: Option<Explanation>,
+) -> io::Result<()> {
     match explanation {
-        Explanation::None => Ok(()),
-        Explanation::Register(register, source) => put_register(
-            out,
-            b" because r",
-            register,
-            source,
-        ),
-        Explanation::Card => put(out, b" because dpc from card"),
-        Explanation::RanOn => put(out, b" because dpc ran on"),
-        Explanation::Transfer(step, dpc, word) => put_transfer(out, step, dpc, word),
-        Explanation::Jr(step, dpc, word, register, source) => {
-            put_transfer(out, step, dpc, word)?;
-            put_register(out, b", r", register, source)
+        None => Ok(()),
+        Some(Explanation::Register(register, source)) => {
+            put(out, b" because")?;
+            put_register(out, register, source)
+        }
+        Some(Explanation::Card) => put(out, b" because dpc from card"),
+        Some(Explanation::RanOn) => put(out, b" because dpc ran on"),
+        Some(Explanation::Transfer(at)) => put_transfer(out, at),
+        Some(Explanation::Jr(at, register, source)) => {
+            put_transfer(out, at)?;
+            put(out, b",")?;
+            put_register(out, register, source)
         }
     }
 }
 
-fn put_transfer<W: Write>(out: &mut W, step: u32, dpc: u32, word: u32) -> io::Result<()> {
+fn put_transfer<W: Write>(out: &mut W, at: At) -> io::Result<()> {
     put(out, b" because dpc from")?;
-    put_at(out, step, dpc, word)
+    put_at(out, at)
 }
 
-// A register behind a text, and its source.
-fn put_register<W: Write>(
-    out: &mut W,
-    before: &[u8],
-    register: u8,
-    source: Source,
-) -> io::Result<()> {
-    put_named(out, before, register as u32)?;
-    put(out, b" from")?;
+// A register and its source.
+fn put_register<W: Write>(out: &mut W, register: u8, source: Source) -> io::Result<()> {
+    write!(out, " r{register} from")?;
     match source {
         Source::Card => put(out, b" card"),
         Source::Zero => put(out, b" zero"),
-        Source::Step(step, dpc, word) => put_at(out, step, dpc, word),
+        Source::Step(at) => put_at(out, at),
     }
 }
 
 // A step, its DPC and its word.
-pub(crate) fn put_at<W: Write>(out: &mut W, step: u32, dpc: u32, word: u32) -> io::Result<()> {
-    put_named(out, b" step ", step)?;
-    put(out, b" at ")?;
-    put_hex(out, dpc)?;
-    put(out, b" word ")?;
-    put_hex(out, word)
+pub(crate) fn put_at<W: Write>(out: &mut W, at: At) -> io::Result<()> {
+    write!(
+        out,
+        " step {} at x{:08X} word x{:08X}",
+        at.step, at.dpc, at.word
+    )
 }

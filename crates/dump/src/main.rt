@@ -4,15 +4,15 @@
 
 mod states;
 
-use card::{Answer, load};
+use card::load;
 use checker::Verdict;
 use judge::Ruling;
-use machine::Machine;
-use show::{ROOM, put, put_number, put_ruling, put_word, read_full};
-use states::{put_changes, put_memory_changes, put_registers};
+use machine::{Machine, Refusal};
+use show::{ROOM, put, put_ruling, read_full};
+use states::{both, put_changes, put_registers};
 use std::io;
 use std::io::{Read, Write};
-use vamp::Ran;
+use vamp::{Answer, Ran};
 
 fn main(rt: HostRuntime) -> io::Result<()> {
     let mut card = [0u8; ROOM];
@@ -25,84 +25,81 @@ fn dump<R: Read, W: Write>(input: &mut R, out: &mut W, card: &mut [u8]) -> io::R
     let mut words = [0u32; Machine::WORDS];
     let mut memory = [0u64; Machine::DOUBLE_WORDS];
     let loaded = load(&card[..n], &mut code, &mut words, &mut memory);
-    let answer = loaded.answer;
-    let machine = loaded.machine;
-    match answer {
-        Answer::Refused(number) => put_refused(out, number),
-        Answer::Loaded => {
-            put_checker(out, machine, code, words)?;
-            put_vamp(out, machine, memory)
+    match loaded.answer {
+        Ok(()) => {
+            put_checker(out, loaded.machine, &code, &words)?;
+            put_vamp(out, loaded.machine, &memory)
         }
+        Err(refusal) => put_refused(out, refusal),
     }
 }
 
 // The verdict line of a refusal.
-fn put_refused<W: Write>(out: &mut W, number: u32) -> io::Result<()> {
-    put_ruling(out, Ruling::Refused(number))?;
+fn put_refused<W: Write>(out: &mut W, refusal: Refusal) -> io::Result<()> {
+    put_ruling(out, Ruling::Refused(refusal.number()))?;
     put(out, b"\n")
 }
 
 fn put_checker<W: Write>(
     out: &mut W,
     machine: Machine,
-    code: [u32; Machine::WORDS],
-    before: [u32; Machine::WORDS],
+    code: &[u32; Machine::WORDS],
+    before: &[u32; Machine::WORDS],
 ) -> io::Result<()> {
-    let mut words = before;
-    let outcome = checker::check(machine, &code, &mut words);
-    let verdict = outcome.verdict;
-    let after = outcome.machine;
+    let mut after = *before;
+    let outcome = checker::check(machine, code, &mut after);
     put(out, b"assembler ")?;
-    put_verdict(out, verdict)?;
-    put_registers(out, after)?;
-    put_changes(out, machine.data.start, before, words)
+    put_verdict(out, outcome.verdict)?;
+    put_registers(out, &outcome.machine)?;
+    // Past the card's words both buffers are zero, so that no line comes of these.
+    put_changes(out, machine.data.start, before.iter().copied().zip(after))
 }
 
 fn put_verdict<W: Write>(out: &mut W, verdict: Verdict) -> io::Result<()> {
     match verdict {
         // A loaded record is never refused: theorem loaded_passes of card.
-        Verdict::Refused(number) => put_named(out, b"refused ", number)?,
-        Verdict::Accepted(steps) => put_named(out, b"accepted ", steps)?,
-        Verdict::Violation(number, step, _, _) => {
-            put_named(out, b"violation ", number)?;
-            put_named(out, b" step ", step)?;
-        }
+        Verdict::Refused(refusal) => writeln!(out, "refused {}", refusal.number()),
+        Verdict::Accepted(steps) => writeln!(out, "accepted {steps}"),
+        Verdict::Violation(violation) => writeln!(
+            out,
+            "violation {} step {}",
+            violation.test.number(),
+            violation.at.step,
+        ),
     }
-    put(out, b"\n")
-}
-
-fn put_named<W: Write>(out: &mut W, name: &[u8], number: u32) -> io::Result<()> {
-    put(out, name)?;
-    put_number(out, number as u64)
 }
 
 fn put_vamp<W: Write>(
     out: &mut W,
     machine: Machine,
-    before: [u64; Machine::DOUBLE_WORDS],
+    before: &[u64; Machine::DOUBLE_WORDS],
 ) -> io::Result<()> {
-    let mut memory = before;
-    let ran = vamp::run(machine, &mut memory, machine.limit);
-    let after = ran.machine;
+    let mut after = *before;
+    let ran = vamp::run(machine, &mut after, machine.limit);
     put(out, b"vamp ")?;
-    put_end(out, ran)?;
-    put_named(out, b"masked ", ran.masked)?;
-    put(out, b"\n")?;
-    put_registers(out, after)?;
-    put_memory_changes(out, before, memory)
+    put_end(out, &ran)?;
+    writeln!(out, "masked {}", ran.masked)?;
+    put_registers(out, &ran.machine)?;
+    put_changes(
+        out,
+        0,
+        before
+            .iter()
+            .flat_map(both)
+            .zip(after.iter().flat_map(both)),
+    )
 }
 
 // How a VAMP run ended: at the limit, or before a step with another answer than 0.
-fn put_end<W: Write>(out: &mut W, ran: Ran) -> io::Result<()> {
-    let answer = ran.answer;
-    let number = answer.number();
-    if number == 0 {
-        put_named(out, b"stepped ", ran.steps)?;
-    } else {
-        put_named(out, b"stopped ", number)?;
-        put(out, b" cause ")?;
-        put_word(out, answer.cause())?;
-        put_named(out, b" step ", ran.steps)?;
+fn put_end<W: Write>(out: &mut W, ran: &Ran) -> io::Result<()> {
+    match ran.answer {
+        Answer::Stepped | Answer::Masked => writeln!(out, "stepped {}", ran.steps),
+        answer => writeln!(
+            out,
+            "stopped {} cause {:08X} step {}",
+            answer.number(),
+            answer.cause(),
+            ran.steps,
+        ),
     }
-    put(out, b"\n")
 }

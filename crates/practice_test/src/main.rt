@@ -8,7 +8,7 @@ mod digests;
 
 use digests::put_digests;
 use judge::{explain, judge};
-use show::{ROOM, put, put_because, put_ruling, read_full, word};
+use show::{ROOM, put, put_because, put_ruling, read_full};
 use std::io;
 use std::io::{Read, Write};
 
@@ -39,12 +39,9 @@ fn one<R: Read, W: Write>(input: &mut R, out: &mut W, card: &mut [u8]) -> io::Re
     if got < 4 {
         return cut(out);
     }
-    let n = word(length[0], length[1], length[2], length[3]) as usize;
-    if n < card.len() {
-        return answer(input, out, &mut card[0..n], 0);
-    }
-    let past = n - card.len();
-    answer(input, out, card, past)
+    let length = u32::from_le_bytes(length) as usize;
+    let kept = length.min(card.len());
+    answer(input, out, &mut card[..kept], length - kept)
 }
 
 // A bundle that ends inside a card has to show in the output; nothing follows it.
@@ -60,10 +57,7 @@ fn answer<R: Read, W: Write>(
     card: &mut [u8],
     past: usize,
 ) -> io::Result<bool> {
-    if read_full(input, card)? < card.len() {
-        return cut(out);
-    }
-    if !skip(input, past)? {
+    if read_full(input, card)? < card.len() || !skip(input, past as u64)? {
         return cut(out);
     }
     put_ruling(out, judge(card))?;
@@ -74,16 +68,6 @@ fn answer<R: Read, W: Write>(
 }
 
 // Reads so many bytes; whether there were as many.
-fn skip<R: Read>(input: &mut R, past: usize) -> io::Result<bool> {
-    for _ in 0..past {
-        if !skip_byte(input)? {
-            return Ok(false);
-        }
-    }
-    Ok(true)
-}
-
-fn skip_byte<R: Read>(input: &mut R) -> io::Result<bool> {
-    let mut byte = [0u8; 1];
-    Ok(read_full(input, &mut byte)? == 1)
+fn skip<R: Read>(input: &mut R, past: u64) -> io::Result<bool> {
+    Ok(io::copy(&mut input.by_ref().take(past), &mut io::sink())? == past)
 }

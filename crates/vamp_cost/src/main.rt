@@ -16,8 +16,7 @@ fn main(rt: HostRuntime) -> io::Result<()> {
     let mut words = [0u32; Machine::WORDS];
     let mut memory = [0u64; Machine::DOUBLE_WORDS];
     let loaded = card::load(&bytes[..n], &mut code, &mut words, &mut memory);
-    let machine = loaded.machine;
-    let ran = vamp::run(machine, &mut memory, machine.limit);
+    let ran = vamp::run(loaded.machine, &mut memory, loaded.machine.limit);
     let steps = ran.steps;
     println!(rt; "{steps}")
 }
