@@ -160,12 +160,12 @@ class Definitions:
         return {int(found[1]) for _, _, right in self[FIELDS].clauses if (found := re.fullmatch(r"field (\d+) w", right))}
 
     def word_answers(self):
-        """Variant: the number that reading or making a word answers."""
+        """Call and variant: the number that reading or making a word answers."""
         found = {}
-        for name in (READING_ANSWER, MADE_ANSWER):
+        for call, name in (("read", READING_ANSWER), ("make", MADE_ANSWER)):
             for left, right in self[WORDS].of(name):
-                variant = re.sub(r"[()]", " ", left).split()[1]
-                found[variant] = int(parts(right.strip()[1:-1])[0])
+                variant = re.sub(r"[()]", " ", left).split()[1].split(".")[-1]
+                found[f"{call} {variant}"] = int(parts(right.strip()[1:-1])[0])
         return found
 
     def twenty(self):
@@ -327,7 +327,7 @@ class Definitions:
     def explained(self):
         """The violations of an explanation: of DPC, and of a register."""
         found = {name: {int(n) for n in numbers.split("∷")[:-1]}
-                 for numbers, name in re.findall(r"one_of v \(((?:\d+ ∷ )+)\[\]\), (\w+) k\)", text_of(SEVEN))}
+                 for numbers, name in re.findall(r"one_of v \(((?:\d+ ∷ )+)\[\]\), Some \((\w+) k\)\)", text_of(SEVEN))}
         if set(found) != {LED, ADDRESSED}:
             raise Lost(f"{SEVEN}: no table of violations")
         return found[LED], found[ADDRESSED]
