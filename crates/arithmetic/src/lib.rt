@@ -42,7 +42,7 @@ pub fn high_of(x: u32) -> u32
 pub fn compare(kind: Comparison, a: u32, b: u32) -> u32
     ensures { result ≡ compared kind a b }
 {
-    holds(kind, a, b) as u32
+    u32::from(holds(kind, a, b))
 }
 
 // Both sides are read as two's complement.
@@ -77,7 +77,8 @@ pub fn sum_beyond(a: u32, b: u32) -> bool
     a.cast_signed().overflowing_add(b.cast_signed()).1
 }
 
-// Whether the signed difference lies beyond the words.
+// Whether the signed difference lies beyond the words: a function beside that of the sum, since a parameter for the operation
+// would say more than the two lines.
 #[tactic(auto, using(crate::proofs::Integers::cast_is, crate::proofs::Integers::beyond_is))]
 pub fn difference_beyond(a: u32, b: u32) -> bool
     ensures { result ≡ beyond (integer a -ℤ integer b) }

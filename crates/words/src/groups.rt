@@ -17,7 +17,8 @@ pub(crate) const ARITHMETIC_REGISTER: u32 = 0x18;
 
 pub(crate) const COMPARE_REGISTER: u32 = 0x10;
 
-// A group whose members are told apart by their numbers.
+// A group whose members are told apart by their numbers. Each group has an impl of its own, since no bound says of a type that `as`
+// reads its discriminants.
 pub trait Numbered: Copy {
     // The members in the document's order.
     ghost members: { List Self };
@@ -28,7 +29,8 @@ pub trait Numbered: Copy {
         ensures value { result ≡ number_of self }
         ensures bits { result < 64 };
 
-    // The member that has a number, if one has.
+    // The member that has a number, if one has. By a match: of a search through the members (`find`) the proof closed for groups
+    // of three and four, and not for those of five to seven.
     fn with_number(number: u32) -> Option<Self>
         ensures value { result ≡ find (λ k. number_of k == number) members }
         ensures number { IfSome result (λ k. number_of k ≡ number) };

@@ -42,7 +42,7 @@ pub(crate) fn jump(opcode: u32, imm: i32) -> Option<u32>
 fn five_bits(number: u8) -> Option<u32>
     ensures { MatchOption result (small (used number) ≡ false) (λ field. (small (used number) ≡ true) × (field ≡ number) × (field < 32)) }
 {
-    let field = number as u32;
+    let field = u32::from(number);
     (field < layout::REGISTERS).then_some(field)
 }
 
