@@ -99,8 +99,8 @@ refusal_no Overlap = 10
 refusal_no NotZero = 11
 refusal_no OverLimit = 12
 
-abbrev pub refused_no : Result (Unit {0}) Refusal → ℕ
-refused_no (Ok u) = 0
+abbrev pub refused_no : {A : Type 0} → Result A Refusal → ℕ
+refused_no (Ok a) = 0
 refused_no (Err r) = refusal_no r
 
 -- A table of tests, each with its answer: the answer of the first that holds, and d where none does

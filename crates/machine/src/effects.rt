@@ -20,7 +20,7 @@ impl State {
         let onward = self.pc.wrapping_add(4);
         let (effect, next) = match instruction {
             Instruction::ShiftImmediate(s, rd, rs1, sa) => (
-                Effect::Put(rd, shift(s, self.general(rs1), sa as u32)),
+                Effect::Put(rd, shift(s, self.general(rs1), u32::from(sa))),
                 onward,
             ),
             Instruction::ShiftRegister(s, rd, rs1, rs2) => (

@@ -3,6 +3,7 @@
 #![tactic(auto)]
 
 ghost use Rattle.std.specs.Prelude.{◌≡◌, ◌+◌, ◌*◌};
+ghost use Rattle.machine.specs.Effects.{mode_set};
 ghost use Rattle.machine.specs.Record.{holds, zeros, refusal_no, state_of, with_state as with_state_lem};
 
 mod effects;
@@ -24,14 +25,14 @@ impl Region {
     pub(crate) fn end(self) -> u64
         ensures { result ≡ self.start + 4 * self.words }
     {
-        self.start as u64 + 4 * (self.words as u64)
+        u64::from(self.start) + 4 * u64::from(self.words)
     }
 
     // Whether the region holds an address.
     pub fn contains(self, address: u32) -> bool
         ensures { result ≡ holds self address }
     {
-        self.start <= address && (address as u64) < self.end()
+        self.start <= address && u64::from(address) < self.end()
     }
 }
 
@@ -47,8 +48,8 @@ pub struct Machine {
     pub spr: [u32; 32],
 }
 
-// The counters DPC and PC' and the registers: what a step changes of a machine. The record has them as fields of its own, since
-// it goes by value and holds the two arrays, as a card lists them.
+// The counters DPC and PC' and the registers: what a step changes of a machine. The record has them as fields of its own: document
+// 01 has the record hold the two arrays, and what is promised of a loaded card (`record_of_lem`) names them there.
 #[derive(Clone, Copy, Debug, PartialEq, Eq)]
 pub struct State {
     pub dpc: u32,
@@ -187,6 +188,19 @@ pub enum Effect {
     Return,
     // Nothing.
     Nothing,
+}
+
+impl Effect {
+    // Whether MODE takes another value than 0: test 27 of the checker, and event 8 of the VAMP machine.
+    #[tactic(auto, unfolding(crate::specs::Effects::mode_set))]
+    pub fn sets_mode(self) -> bool
+        ensures { result ≡ mode_set self }
+    {
+        match self {
+            Effect::PutSpecial(number, value) => number as usize == Machine::MODE && value != 0,
+            _ => false,
+        }
+    }
 }
 
 // An effect, and the next PC'.
