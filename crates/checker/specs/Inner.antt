@@ -1,9 +1,9 @@
 -- What the private functions of the checked step and of the explanation promise each other, over the definitions of Checks and Seven.
-use Rattle.std.specs.Prelude.{◌≡◌, ℕ, suc, ◌-◌, ◌*◌, ◌%◌, ◌<◌, ◌≤◌, true, false, not, ◌&&◌, List, [], ◌∷◌, length, ◌==◌, slice_index, slice_index_or, Option, Some, None, Result, Ok, Err}
+use Rattle.std.specs.Prelude.{◌≡◌, ℕ, suc, ◌-◌, ◌*◌, ◌%◌, ◌<◌, ◌≤◌, true, false, not, List, [], ◌∷◌, length, ◌==◌, slice_index, slice_index_or, Option, Some, None, Result, Ok, Err}
 use Rattle.words.specs.Fields.{pick, rs1}
 use Rattle.machine.specs.declared.Machine.{Machine}
 use Rattle.machine.specs.declared.Region.{Region}
-use Rattle.machine.specs.Effects.{State, MODE, act, unaligned}
+use Rattle.machine.specs.Effects.{State, act, unaligned}
 use Rattle.machine.specs.Record.{holds, first, state_of, word_at}
 use Rattle.checker.specs.declared.Test.{Test}
 use Rattle.checker.specs.declared.checked.Stop.{Stop}
@@ -55,12 +55,9 @@ abbrev pub broken_no : Result Unit Test → ℕ
 broken_no (Ok u) = 0
 broken_no (Err t) = test_no t
 
--- Tests 25 and 26 of what is loaded or stored in n bytes from an address, and test 27 of a special register and its value
+-- Tests 25 and 26 of what is loaded or stored in n bytes from an address
 abbrev pub access_number : ℕ → Region → ℕ → ℕ
 access_number n r a = first ((unaligned n a, 25) ∷ (not (holds r a), 26) ∷ []) 0
-
-abbrev pub mode_number : ℕ → ℕ → ℕ
-mode_number n x = first ((n == MODE && not (x == 0), 27) ∷ []) 0
 
 -- A run that ended: its answer, state and data are those of the definition, and the register is the one that its last step wrote
 abbrev pub Ended : Machine → List ℕ → ℕ → State → List ℕ → Ran → State → List ℕ → Type 0

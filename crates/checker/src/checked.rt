@@ -3,7 +3,7 @@ ghost use Rattle.std.specs.Prelude.{◌≡◌, ◌-◌, ◌/◌, ◌<◌, true, 
 ghost use Rattle.machine.specs.Effects.{askew, mode_set};
 ghost use Rattle.machine.specs.Record.{first, holds};
 ghost use Rattle.checker.specs.Checks.{outside, found, left};
-ghost use Rattle.checker.specs.Inner.{Room, Rooms, Stepped, Fetches, Offset, broken_no, mode_number, access_number};
+ghost use Rattle.checker.specs.Inner.{Room, Rooms, Stepped, Fetches, Offset, broken_no, access_number};
 
 use crate::Test;
 use crate::admitted::admits;
@@ -15,6 +15,7 @@ use machine::{Act, Effect, Machine, Region, State};
 #[derive(Clone, Copy)]
 pub(crate) struct Stop {
     pub test: Test,
+    // 0, and no Option, says that there is no word, as in `At`.
     pub word: u32,
 }
 
@@ -64,7 +65,7 @@ fn fetch(region: Region, dpc: u32, code: &[u32]) -> Result<u32, Stop>
         });
     }
     let offset = offset_of(region, dpc);
-    if 4 * (region.words as u64) <= offset {
+    if 4 * u64::from(region.words) <= offset {
         return Err(Stop {
             test: Test::Outside,
             word: 0,
@@ -74,11 +75,11 @@ fn fetch(region: Region, dpc: u32, code: &[u32]) -> Result<u32, Stop>
 }
 
 // How far into a region an address lies, in bytes. One before it wraps to beyond all regions, so that one test tells both ways
-// out: with `contains` and `place`, as in `access`, each step is dearer (tools/cost: 58.8 instructions for 56.6).
+// out: with `contains` and `place`, as in `access`, each step is dearer (tools/cost: 57.2 instructions for 54.2).
 fn offset_of(region: Region, address: u32) -> u64
     ensures { Offset region address result }
 {
-    (address as u64).wrapping_sub(region.start as u64)
+    u64::from(address).wrapping_sub(u64::from(region.start))
 }
 
 // The place of a region's address in the region's list.
@@ -90,17 +91,20 @@ fn place(region: Region, address: u32) -> usize
     ((address - region.start) / 4) as usize
 }
 
-// The first of the tests 25 to 27 that an effect breaks.
-#[tactic(auto, unfolding(crate::specs::Checks::outside, machine::specs::Effects::access, machine::specs::Effects::askew, machine::specs::Effects::mode_set))]
+// The first of the tests 25 to 27 that an effect breaks. A new kind of effect needs its tests here, or it passes.
+#[tactic(auto, unfolding(crate::specs::Checks::outside, machine::specs::Effects::access, machine::specs::Effects::askew))]
 fn first_broken(effect: Effect, region: Region) -> Result<(), Test>
     ensures { broken_no result ≡ first ((askew effect, 25) ∷ (outside region effect, 26) ∷ (mode_set effect, 27) ∷ []) 0 }
 {
     match effect {
-        Effect::PutSpecial(number, value) => broken_mode(number, value),
-        Effect::Load(kind, _, ea) => broken_access(kind, ea, region),
-        Effect::Store(kind, ea, _) => broken_access(kind, ea, region),
-        _ => Ok(()),
+        Effect::Load(kind, _, ea) => broken_access(kind, ea, region)?,
+        Effect::Store(kind, ea, _) => broken_access(kind, ea, region)?,
+        _ => {}
     }
+    if effect.sets_mode() {
+        return Err(Test::Mode);
+    }
+    Ok(())
 }
 
 // Tests 25 and 26 of a load or store.
@@ -112,16 +116,6 @@ fn broken_access<K: Access>(kind: K, ea: u32, region: Region) -> Result<(), Test
     }
     if !region.contains(ea) {
         return Err(Test::Beyond);
-    }
-    Ok(())
-}
-
-// Test 27 of a write to a special register.
-fn broken_mode(number: u8, value: u32) -> Result<(), Test>
-    ensures { broken_no result ≡ mode_number number value }
-{
-    if number as usize == Machine::MODE && value != 0 {
-        return Err(Test::Mode);
     }
     Ok(())
 }

@@ -45,22 +45,23 @@ impl Test {
 }
 
 // A step of a run, its DPC and its word (0 where tests 21 and 22 stop it, before the word is fetched).
-#[derive(Clone, Copy)]
+#[derive(Clone, Copy, Debug, PartialEq, Eq)]
 pub struct At {
     pub step: u32,
     pub dpc: u32,
+    // 0, and no Option, says that there is no word: the promise gives 0 for 21 and 22 (`told`; `told_judged` of judge).
     pub word: u32,
 }
 
 // The first test that a run breaks, and where.
-#[derive(Clone, Copy)]
+#[derive(Clone, Copy, Debug, PartialEq, Eq)]
 pub struct Violation {
     pub test: Test,
     pub at: At,
 }
 
 // What a step or a run answers.
-#[derive(Clone, Copy)]
+#[derive(Clone, Copy, Debug, PartialEq, Eq)]
 pub enum Verdict {
     Refused(Refusal),
     // The steps taken.
@@ -76,7 +77,7 @@ pub struct Outcome {
 }
 
 // Where a general register's value came from.
-#[derive(Clone, Copy)]
+#[derive(Clone, Copy, Debug, PartialEq, Eq)]
 pub enum Source {
     // The card: no step wrote it.
     Card,
@@ -87,7 +88,7 @@ pub enum Source {
 }
 
 // Where the bad address of a violation came from.
-#[derive(Clone, Copy)]
+#[derive(Clone, Copy, Debug, PartialEq, Eq)]
 pub enum Explanation {
     // 25 and 26: the register RS1 and its source.
     Register(u8, Source),

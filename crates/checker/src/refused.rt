@@ -3,7 +3,7 @@ ghost use Rattle.std.specs.Prelude.{◌≡◌};
 ghost use Rattle.machine.specs.Record.{refused_no};
 ghost use Rattle.checker.specs.Runs.{step_refusal, run_refusal};
 
-use machine::refusals::{of_regions, over_limit, wrong_count};
+use machine::refusals::{self, over_limit, wrong_count};
 use machine::{Machine, Refusal};
 
 // The length of the buffer of code.
@@ -20,7 +20,7 @@ pub(crate) fn of_step(machine: &Machine, code: usize, words: usize) -> Result<()
     if wrong_count(machine) {
         return Err(Refusal::WrongCount);
     }
-    of_regions(machine)
+    refusals::of_regions(machine)
 }
 
 // Whether a run is refused: as a step, or for its limit.

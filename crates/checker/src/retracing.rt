@@ -53,7 +53,7 @@ fn place_of(fetches: Region, step: u32, dpc: u32, code: &[u32]) -> At
     }
 }
 
-// The word of a region's list at an address, 0 past the list.
+// The word of a region's list at an address, 0 past the list, as its definition is; a card's image answers none there.
 #[tactic(auto, unfolding(machine::specs::Record::word_at))]
 fn word_at(region: Region, address: u32, code: &[u32]) -> u32
     ensures { result ≡ word_at region code.now address }
