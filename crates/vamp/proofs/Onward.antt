@@ -1,17 +1,20 @@
 -- A sequence of steps, step by step.
 use Prim.Native.Nat.{ℕ, suc, ◌+◌, ◌-◌, ◌≤◌, ◌<◌}
 use mathlib.Core.Path.{◌≡◌, refl, sym, ap, ap₂, ◌∙◌}
-use mathlib.Core.Bool.{Bool, true, false, not}
+use mathlib.Core.Bool.{Bool, true, false, true≢false}
 use native.Mathlib.Omega.{arith}
 use borrow.Author.Tests.{eq-eqb, ne_eqb}
 use lib.Dec.{eqb}
 use mir.Val.{bool_byte}
+use denote.Enum.Bare.{sameb}
 use Rattle.std.specs.Prelude.{Result, Ok, Err}
 use Rattle.words.specs.Fields.{pick}
 use Rattle.vamp.specs.Events.{fetched, event}
 use Rattle.vamp.specs.Steps.{Vamp, Course, answered, carried, vstep, onward, further, stopped, reported}
 use Rattle.vamp.specs.Inner.{judged, passes, course}
+use Rattle.vamp.specs.contracts.Answer.{the_type}
 use Rattle.vamp.specs.declared.Answer.{Answer}
+use Rattle.vamp.specs.declared.Answer.TheVariants as says
 use Rattle.vamp.proofs.Tests.{took_yes, took_not, passing, stopping}
 
 -- The one whose next step is taken
@@ -42,13 +45,21 @@ reported_most ca = by (eqb ca 0)
     by true = omega arith
     by false = omega arith
 
--- The test that counts them
-pub reported_is : (ca : ℕ) → bool_byte (not (eqb ca 0)) ≡ reported ca
-reported_is ca = by (eqb ca 0)
+-- The test that counts them, of the answer of a step that is taken
+pub reported_is : (a : Answer) (e : ℕ × ℕ) → judged (Ok a) ≡ passes e → bool_byte (sameb the_type a says.Masked) ≡ reported (answered a).1
+reported_is a e j = by a (ap (λ (z : Bool × (ℕ × ℕ)). z.0) j ∙ sym (ap (λ (z : Bool × (ℕ × ℕ)). eqb z.1.0 0) j))
   where
-    by : (t : Bool) → bool_byte (not t) ≡ pick t 0 1
-    by true = refl
-    by false = refl
+    by : (a : Answer) → true ≡ eqb (answered a).0 0 → bool_byte (sameb the_type a says.Masked) ≡ reported (answered a).1
+    by says.Stepped h = refl
+    by says.Masked h = refl
+    by says.Misaligned h = absurd (true≢false h)
+    by says.Illegal h = absurd (true≢false h)
+    by says.Trap h = absurd (true≢false h)
+    by says.Overflow h = absurd (true≢false h)
+    by says.PastMemory h = absurd (true≢false h)
+    by says.Mode h = absurd (true≢false h)
+    by says.WrongLength h = absurd (true≢false h)
+    by says.NotZero h = absurd (true≢false h)
 
 -- The same for a loop that has gone k of n steps, by what the next step answers and what it leaves
 module _ (n k : ℕ) (c : Course) (l : k < n) (r : Result Answer Answer) (j : judged r ≡ passes (vstep c.left).0) (y : Vamp) (left : y ≡ (vstep c.left).1) (a : Answer) where

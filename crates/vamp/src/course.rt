@@ -19,7 +19,7 @@ pub(crate) fn go(machine: Machine, memory: &mut Memory, limit: u32) -> Ran
         match one(&mut state, memory) {
             Ok(said) => {
                 answer = said;
-                masked += u32::from(said.cause() != 0);
+                masked += u32::from(said == Answer::Masked);
             }
             Err(said) => {
                 return Ran {

@@ -1,9 +1,7 @@
 // The events of a step, but for the illegal word: tests of its fetch, and of the effect of its word. `Ok` is the answer of a
 // step that is taken, `Err` that of one that is not.
-#![tactic(auto, using(crate::proofs::Tests::overflow_bit), unfolding(crate::specs::Events::access_past, crate::specs::Events::overflow_masked, crate::specs::Events::overflowed, crate::specs::Events::trapped, crate::specs::Inner::access_event, crate::specs::Inner::effect_event, machine::specs::Effects::access, machine::specs::Effects::askew, machine::specs::Effects::mode_set, machine::specs::Effects::register))]
-
-ghost use Rattle.std.specs.Prelude.{not, ◌&&◌, ◌∷◌, [], ◌≡◌, eqb};
-ghost use Rattle.machine.specs.Effects.{MODE};
+ghost use Rattle.std.specs.Prelude.{◌&&◌, ◌∷◌, [], ◌≡◌};
+ghost use Rattle.machine.specs.Effects.{mode_set};
 ghost use Rattle.machine.specs.Record.{first};
 ghost use Rattle.vamp.specs.Events.{overflow_masked, stepped, interrupt, mode, OVERFLOW};
 ghost use Rattle.vamp.specs.Inner.{judged, passes, access_event, effect_event};
@@ -13,11 +11,12 @@ use machine::sizes::askew;
 use machine::{Effect, Machine};
 
 // Events 4 to 8, of an effect.
+#[tactic(auto, unfolding(crate::specs::Events::access_past, crate::specs::Events::overflowed, crate::specs::Events::trapped, crate::specs::Inner::access_event, crate::specs::Inner::effect_event, machine::specs::Effects::access, machine::specs::Effects::askew, machine::specs::Effects::mode_set))]
 pub(crate) fn of_effect(effect: Effect, spr: &[u32; 32]) -> Result<Answer, Answer>
     ensures { judged result ≡ passes (effect_event effect spr.now) }
 {
     match effect {
-        Effect::PutSpecial(number, value) => special(number, value),
+        Effect::PutSpecial(_, _) => special(effect),
         Effect::Sum(_, _, beyond) => sum(beyond, spr),
         Effect::Load(kind, _, address) => access(askew(kind, address), address),
         Effect::Store(kind, address, _) => access(askew(kind, address), address),
@@ -27,12 +26,13 @@ pub(crate) fn of_effect(effect: Effect, spr: &[u32; 32]) -> Result<Answer, Answe
 }
 
 // Events 4 and 5, and so 1 and 2: an access at an address that may be askew.
+#[tactic(auto, unfolding(crate::specs::Inner::access_event))]
 pub(crate) fn access(askew: bool, address: u32) -> Result<Answer, Answer>
     ensures { judged result ≡ passes (access_event askew address) }
 {
     if askew {
         Err(Answer::Misaligned)
-    } else if Machine::MEMORY <= address as u64 {
+    } else if Machine::MEMORY <= u64::from(address) {
         Err(Answer::PastMemory)
     } else {
         Ok(Answer::Stepped)
@@ -40,6 +40,7 @@ pub(crate) fn access(askew: bool, address: u32) -> Result<Answer, Answer>
 }
 
 // Event 7: a sum or difference that may lie beyond the words. SR bit 6 masks it where it is 0.
+#[tactic(auto, using(crate::proofs::Tests::overflow_bit), unfolding(crate::specs::Events::overflow_masked, machine::specs::Effects::register))]
 fn sum(beyond: bool, spr: &[u32; 32]) -> Result<Answer, Answer>
     ensures { judged result ≡ passes (first ((beyond && overflow_masked spr.now, stepped OVERFLOW) ∷ (beyond, interrupt OVERFLOW) ∷ []) (stepped 0)) }
 {
@@ -52,11 +53,11 @@ fn sum(beyond: bool, spr: &[u32; 32]) -> Result<Answer, Answer>
     }
 }
 
-// Event 8: a value for a special register.
-fn special(number: u8, value: u32) -> Result<Answer, Answer>
-    ensures { judged result ≡ passes (first ((eqb number MODE && not (eqb value 0), mode) ∷ []) (stepped 0)) }
+// Event 8: a value for a special register, that would set MODE.
+fn special(effect: Effect) -> Result<Answer, Answer>
+    ensures { judged result ≡ passes (first ((mode_set effect, mode) ∷ []) (stepped 0)) }
 {
-    if number as usize == Machine::MODE && value != 0 {
+    if effect.sets_mode() {
         Err(Answer::Mode)
     } else {
         Ok(Answer::Stepped)

@@ -1,6 +1,4 @@
 // Memory by double words: their parts of 8, 16 and 32 bits.
-#![tactic(auto, using(crate::proofs::Memory::part_below, crate::proofs::Shifts::byte_extended, crate::proofs::Shifts::half_extended, crate::proofs::Shifts::range_is, crate::proofs::Shifts::patched_is, crate::proofs::Shifts::patched_fits), unfolding(crate::specs::Events::access_past, crate::specs::Memory::loaded, crate::specs::Memory::part, crate::specs::Memory::stored, crate::specs::Steps::found, crate::specs::Steps::memory_after, machine::specs::Effects::access, machine::specs::Effects::askew))]
-
 ghost use Rattle.std.specs.Prelude.{false, ◌≡◌, ◌+◌, ◌*◌, ◌/◌, ◌%◌, ◌≤◌, ◌<◌};
 ghost use Rattle.machine.specs.Effects.{store_size, unaligned, askew};
 ghost use Rattle.machine.specs.Record.{MEMORY};
@@ -45,6 +43,7 @@ impl Address {
 }
 
 // What the load of an effect finds, or 0. Its store is put.
+#[tactic(auto, unfolding(crate::specs::Events::access_past, crate::specs::Steps::found, crate::specs::Steps::memory_after, machine::specs::Effects::access, machine::specs::Effects::askew))]
 pub(crate) fn carry(effect: Effect, memory: &mut Memory) -> u32
     requires { (askew effect ≡ false) × (access_past effect ≡ false) }
     ensures { (result ≡ found effect memory.old) × (memory.new ≡ memory_after effect memory.old) }
@@ -55,16 +54,12 @@ pub(crate) fn carry(effect: Effect, memory: &mut Memory) -> u32
             store(kind, memory, Address::of(number), value);
             0
         }
-        Effect::Put(_, _)
-        | Effect::PutSpecial(_, _)
-        | Effect::Sum(_, _, _)
-        | Effect::Trap(_)
-        | Effect::Return
-        | Effect::Nothing => 0,
+        _ => 0,
     }
 }
 
 // lb and lh extend the sign, lbu and lhu by zeros.
+#[tactic(auto, using(crate::proofs::Memory::part_below, crate::proofs::Shifts::byte_extended, crate::proofs::Shifts::half_extended), unfolding(crate::specs::Memory::loaded))]
 fn load(kind: LoadKind, memory: &Memory, address: Address) -> u32
     ensures { result ≡ loaded kind memory.now address.number }
 {
@@ -84,6 +79,7 @@ fn load(kind: LoadKind, memory: &Memory, address: Address) -> u32
 }
 
 // The low bits of a value are stored.
+#[tactic(auto, unfolding(crate::specs::Memory::stored))]
 fn store(kind: StoreKind, memory: &mut Memory, address: Address, value: u32)
     requires { unaligned (store_size kind) address.number ≡ false }
     ensures { memory.new ≡ stored kind memory.old address.number value }
@@ -96,6 +92,7 @@ fn store(kind: StoreKind, memory: &mut Memory, address: Address, value: u32)
 }
 
 // The BITS bits at an address.
+#[tactic(auto, using(crate::proofs::Shifts::range_is), unfolding(crate::specs::Memory::part))]
 pub(crate) fn read<const BITS: u32>(memory: &Memory, address: Address) -> u32
     requires { BITS ≤ 32 }
     ensures { result ≡ at BITS memory.now address.number }
@@ -105,6 +102,7 @@ pub(crate) fn read<const BITS: u32>(memory: &Memory, address: Address) -> u32
 }
 
 // Replaces the BITS bits at an address by the low ones of a value.
+#[tactic(auto, using(crate::proofs::Shifts::range_is, crate::proofs::Shifts::patched_is, crate::proofs::Shifts::patched_fits), unfolding(crate::specs::Memory::part))]
 fn write<const BITS: u32>(memory: &mut Memory, address: Address, value: u32)
     requires { (BITS ≤ 32) × (8 * (address.number % 8) + BITS ≤ 64) }
     ensures { memory.new ≡ put BITS memory.old address.number value }
@@ -113,6 +111,6 @@ fn write<const BITS: u32>(memory: &mut Memory, address: Address, value: u32)
     let below = address.below();
     let range = 1u64 << BITS;
     let old = (memory[index] >> below) % range;
-    let new = value as u64 % range;
+    let new = u64::from(value) % range;
     memory[index] = memory[index] - (old << below) + (new << below);
 }

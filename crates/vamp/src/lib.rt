@@ -61,7 +61,7 @@ impl Answer {
         }
     }
 
-    // The cause word.
+    // The cause word. Several answers share one.
     pub fn cause(self) -> u32
         ensures { result ≡ (answered self).1 }
     {

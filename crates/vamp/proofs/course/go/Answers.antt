@@ -1,9 +1,10 @@
 use Prim.Native.Nat.{ℕ, ◌+◌}
 use mathlib.Core.Path.{◌≡◌, sym, ap, ◌∙◌}
 use native.Mathlib.Omega.{arith}
+use mir.Val.{bool_byte}
 use Rattle.vamp.proofs.Onward.{goes_on, stops, ends, reported_is, reported_most}
 use Rattle.vamp.specs.Steps.{answered, reported}
-use Rattle.vamp.specs.Inner.{course_of}
+use Rattle.vamp.specs.Inner.{course_of, judged}
 use Rattle.vamp.proofs.course.go.Goals as goal
 
 pub returns-in-Err : goal.returns-in-Err
@@ -12,7 +13,7 @@ returns-in-Err c =
 
 pub loop-taken-preserved : goal.loop-taken-preserved
 loop-taken-preserved c =
-    let m : c.from-masked.result ≡ reported (answered c.in-Ok.said).1 = c.from-masked.ensures ∙ reported_is c.cause.result ∙ ap reported c.cause.ensures in
+    let m : c.from-masked.result ≡ reported (answered c.in-Ok.said).1 = c.from-masked.ensures ∙ ap bool_byte c.eq.ensures ∙ reported_is c.in-Ok.said _ (ap judged (sym c.in-Ok.is) ∙ c.one.ensures.answer) in
     let l = reported_most (answered c.in-Ok.said).1 in (
       omega arith,
       omega arith,
