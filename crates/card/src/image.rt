@@ -78,6 +78,6 @@ impl<'a> Image<'a> {
         let address = 8 * (i as u32);
         let low = self.word_at(address);
         let high = self.word_at(address + 4);
-        low as u64 | ((high as u64) << 32)
+        u64::from(low) | u64::from(high) << 32
     }
 }

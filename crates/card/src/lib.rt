@@ -18,7 +18,8 @@ use table::accepted;
 // The bytes of the longest card that loads.
 pub const LONGEST: usize = BODY + 4 * (Machine::WORDS + Machine::WORDS);
 
-// The answer, and the record: the card's, or one of zeros where the card was refused.
+// The answer, and the record: the card's, or one of zeros where the card was refused. It stands beside the answer, and not in its Ok
+// alone, since a load that is refused hands back a record too (`loading_refused`).
 #[derive(Clone, Copy)]
 pub struct Loaded {
     pub answer: Result<(), Refusal>,

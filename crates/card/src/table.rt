@@ -5,8 +5,7 @@ ghost use Rattle.card.specs.Card.{wrong_size_lem, record_of_lem};
 ghost use Rattle.card.specs.Work.{header, from_two, from_six};
 
 use crate::fields::{BODY, VERSION, number16, record_of};
-use machine::refusals::{of_regions, over_limit, wrong_count};
-use machine::{Machine, Refusal};
+use machine::{Machine, Refusal, refusals};
 
 // The record of a card that none of the tests 2 to 12 refuses.
 #[tactic(auto, using(crate::proofs::Accepted::long_enough))]
@@ -41,14 +40,14 @@ fn well_formed(card: &[u8]) -> Result<(), Refusal>
 fn fitting(card: &[u8], machine: &Machine) -> Result<(), Refusal>
     ensures { refused_no result ≡ from_six card.now machine.now }
 {
-    if wrong_count(machine) {
+    if refusals::wrong_count(machine) {
         return Err(Refusal::WrongCount);
     }
     if wrong_size(card.len(), machine) {
         return Err(Refusal::WrongSize);
     }
-    of_regions(machine)?;
-    if over_limit(machine) {
+    refusals::of_regions(machine)?;
+    if refusals::over_limit(machine) {
         return Err(Refusal::OverLimit);
     }
     Ok(())

@@ -1,6 +1,5 @@
 -- What the judge's functions say to one another.
-use Rattle.std.specs.Prelude.{ℕ, ◌≡◌, List, [], ◌∷◌, ◌++◌, Result, Ok, Err}
-use Rattle.machine.specs.declared.Refusal.{Refusal}
+use Rattle.std.specs.Prelude.{ℕ, ◌≡◌, List, [], ◌∷◌, ◌++◌}
 use Rattle.machine.specs.Record.{refusal_no}
 use Rattle.card.specs.Card.{record_of_lem, code_buffer, data_buffer}
 use Rattle.checker.specs.declared.Verdict.{Verdict}
@@ -9,11 +8,6 @@ use Rattle.checker.specs.Checks.{test_no}
 use Rattle.judge.specs.declared.Program.{Program}
 use Rattle.judge.specs.declared.lines.Line.{Line}
 use Rattle.judge.specs.Line.{line_of}
-
--- The number by which loading refuses; 0 where it does not
-abbrev pub refused_no : Result Program Refusal → ℕ
-refused_no (Ok p) = 0
-refused_no (Err r) = refusal_no r
 
 -- The record and the buffers that a card loads
 abbrev pub program_of : List ℕ → Program

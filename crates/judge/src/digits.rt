@@ -20,18 +20,13 @@ fn glyph(d: u32) -> u8
     b"0123456789ABCDEF"[d as usize]
 }
 
-// The most decimal digits of a number of 32 bits.
-const MOST: u32 = 10;
-
 // How many decimal digits n has.
 pub(crate) fn places(n: u32) -> u32
     ensures value { result ≡ places_lem n }
     ensures upper_bound { result ≤ 10 }
 {
-    for count in 1..MOST {
-        if n < 10u32.pow(count) {
-            return count;
-        }
+    match n.checked_ilog10() {
+        Some(power) => power + 1,
+        None => 1,
     }
-    MOST
 }

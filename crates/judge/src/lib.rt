@@ -3,9 +3,10 @@
 #![tactic(auto)]
 
 ghost use Rattle.std.specs.Prelude.{◌≤◌, ◌≡◌, length, IfOk};
+ghost use Rattle.machine.specs.Record.{refused_no};
 ghost use Rattle.judge.specs.Judging.{answer_of, judging, refused_by, explained_by};
 ghost use Rattle.judge.specs.Line.{line_of, text_of, hex as hex_lem};
-ghost use Rattle.judge.specs.Work.{refused_no, program_of, ruling_of_lem};
+ghost use Rattle.judge.specs.Work.{program_of, ruling_of_lem};
 
 mod digits;
 mod lines;
@@ -120,9 +121,5 @@ pub fn line(ruling: Ruling) -> Line
 pub fn hex(word: u32) -> [u8; 8]
     ensures { result ≡ hex_lem word }
 {
-    let mut digits = [0; 8];
-    for (i, out) in digits.iter_mut().enumerate() {
-        *out = digit(word, 16, 7 - i as u32);
-    }
-    digits
+    std::array::from_fn(|i| digit(word, 16, 7 - i as u32))
 }

@@ -16,7 +16,8 @@ pub struct Line {
     pub len: usize,
 }
 
-// Each `put` is the line with more bytes behind those that it has.
+// Each `put` is the line with more bytes behind those that it has, and asks for the room of its own text, which is no fact of the
+// line alone.
 impl Line {
     pub(crate) fn empty() -> Line
         ensures value { result ≡ line_of [] }

@@ -9,7 +9,7 @@ ghost use Rattle.judge.specs.Work.{STEP_BYTES, FROM_BYTES, Extends};
 use crate::lines::Line;
 use checker::{At, Explanation, Source};
 
-// The second line: the explanation of a violation, with its end; no byte where there is none.
+// The second line: the explanation of a violation, with its end; no byte where there is none. A function, and no Display, as `line`.
 pub fn because(explanation: Option<Explanation>) -> Line
     ensures value { result ≡ line_of (because_text explanation) }
     ensures len_in_bounds { result.len ≤ length result.bytes }
@@ -40,7 +40,7 @@ impl Line {
         ensures len_bound { result.len ≤ self.len + FROM_BYTES }
     {
         self.put(b"r")
-            .put_decimal(register as u32)
+            .put_decimal(u32::from(register))
             .put(b" from ")
             .put_source(source)
     }

@@ -2,7 +2,7 @@ use mathlib.Core.Path.{◌≡◌, refl, sym, ap, ◌∙◌}
 use Rattle.std.specs.Prelude.{Err}
 use Rattle.std.proofs.lemmas.Result.{err_from_is_err_and}
 use Rattle.machine.specs.declared.Refusal.{Refusal}
-use Rattle.judge.specs.Work.{refused_no}
+use Rattle.machine.specs.Record.{refused_no}
 use Rattle.judge.proofs.Ruled.{loaded_refused, loaded_ok, loaded_program}
 use Rattle.judge.proofs.loaded.Goals as goal
 

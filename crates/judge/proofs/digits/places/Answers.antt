@@ -1,8 +1,9 @@
-use Prim.Native.Nat.{ℕ, zero, suc, ◌-◌, ◌^◌, ◌≤◌, ◌<◌}
+use Prim.Native.Nat.{ℕ, zero, suc, ◌+◌, ◌*◌, ◌-◌, ◌^◌, ◌≤◌, ◌<◌}
 use mathlib.Core.Path.{◌≡◌}
 use mathlib.Core.Logic.{◌⊎◌, inl, inr}
 use native.Mathlib.Nat.{pow-le-pow_right, one-le-pow}
 use native.Mathlib.Omega.{arith}
+use Rattle.std.proofs.Math.Nat.{pow-succ'}
 use Rattle.std.proofs.lemmas.Bool.{cases_lt}
 use Rattle.judge.specs.Digits.{places}
 use Rattle.judge.proofs.Decides.{places_hold, places_fewest}
@@ -36,10 +37,19 @@ counted (suc n) k small some held needed =
     let below : places (suc n) ≤ k = enough (suc n) k (places (suc n)) held (places_fewest (suc n) (omega arith)) in
     omega arith
 
-pub returns-then-n-pow-clause-value : goal.returns-then-n-pow-clause-value
-returns-then-n-pow-clause-value c = counted c.args.n c.loop-count.count (omega arith) (omega arith) (omega arith) c.loop-count.invariant.1
+lower : (p n : ℕ) → 10 ^ p ≤ n → 10 ^ (suc p - 1) ≤ n
+lower p n h = let e : suc p - 1 ≡ p = omega arith in rw e h
 
-pub returns-clause-value : goal.returns-clause-value
-returns-clause-value c =
-    let last : c.loop-count.count ≡ 10 = omega arith in
-    counted c.args.n 10 (omega arith) (omega arith) (omega arith) (rw (last) at c.loop-count.invariant.1)
+plus_one : (n : ℕ) → n + 1 ≡ suc n
+plus_one n = omega arith
+
+pub returns-in-Some-clause-value : goal.returns-in-Some-clause-value
+returns-in-Some-clause-value c =
+    let next : c.args.n < 10 * 10 ^ c.in-Some.power = c.in-Some.ensures.next_power_gt in
+    let low = c.in-Some.ensures.power_le in
+    rw (plus_one c.in-Some.power) (counted c.args.n (suc c.in-Some.power) (omega arith) (omega arith) (rw (pow-succ' 10 c.in-Some.power) next) (λ l. lower c.in-Some.power c.args.n low))
+
+pub returns-in-None-clause-value : goal.returns-in-None-clause-value
+returns-in-None-clause-value c =
+    let zero = c.in-None.ensures.none in
+    counted c.args.n 1 (omega arith) (omega arith) (omega arith) (λ l. absurd (omega arith))
