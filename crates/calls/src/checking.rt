@@ -36,6 +36,7 @@ pub(crate) fn unexplained(outcome: Outcome) -> Explained {
     }
 }
 
+// In the format's text, with each value of it: not what `dump` writes, so that a Display would serve one of the two.
 fn put_verdict<W: Write>(out: &mut W, verdict: Verdict) -> io::Result<()> {
     match verdict {
         Verdict::Refused(refusal) => put_named(out, b"refused ", refusal.number()),

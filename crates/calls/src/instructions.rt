@@ -2,7 +2,7 @@
 // the syntax.
 use words::{Arithmetic, Comparison, Instruction, LoadKind, Shift, StoreKind};
 
-// The members of each group in the document's order, in which their numbers follow one another.
+// The members of each group in the document's order, in which the format's numbers follow one another; a word has others.
 const SHIFTS: [Shift; 4] = [Shift::Sll, Shift::Sla, Shift::Srl, Shift::Sra];
 
 const ARITHMETIC: [Arithmetic; 7] = [
@@ -34,6 +34,7 @@ const LOADS: [LoadKind; 5] = [
 
 const STORES: [StoreKind; 3] = [StoreKind::Sb, StoreKind::Sh, StoreKind::Sw];
 
+// By numbers, since the inputs name an instruction by its place in the list of the 58.
 // The instruction of a number, and of any other rfe, and its operands; registers and SA are bytes, and take the low eight bits.
 pub(crate) fn instruction_of(number: u32, operands: [u32; 3]) -> Instruction {
     let [first, second, third] = operands.map(low);

@@ -21,6 +21,7 @@ pub(crate) fn take_memory(places: &Places) -> [u64; DOUBLE_WORDS] {
     memory
 }
 
+// By places, and not by pairs of them: the borrow checker does not cover `as_chunks_mut` of a part yet.
 pub(crate) fn keep_memory(memory: &[u64; DOUBLE_WORDS], places: &mut Places) {
     for (i, double) in memory.iter().enumerate() {
         places[MEMORY + 2 * i] = lower(*double);
@@ -31,8 +32,9 @@ pub(crate) fn keep_memory(memory: &[u64; DOUBLE_WORDS], places: &mut Places) {
 // Four bytes of each word, the lowest first.
 pub(crate) fn take_card(places: &Places) -> [u8; BYTES] {
     let mut card = [0u8; BYTES];
-    for (i, byte) in card.iter_mut().enumerate() {
-        *byte = places[CARD + i / 4].to_le_bytes()[i % 4];
+    let (words, _) = card.as_chunks_mut::<4>();
+    for (bytes, word) in words.iter_mut().zip(&places[CARD..]) {
+        *bytes = word.to_le_bytes();
     }
     card
 }

@@ -1,4 +1,5 @@
-// What a call is given, and what it leaves, is an array of words. A place is an index of it.
+// What a call is given, and what it leaves, is an array of words, since the input names what it sets by a number. A place is an
+// index of it.
 use std::io;
 use std::io::Write;
 

@@ -4,7 +4,8 @@ use show::put;
 use std::io;
 use std::io::Write;
 
-// Nothing where there is none.
+// Nothing where there is none. The text is the format's of the calls, so that a Display of `Explanation` would serve this program
+// alone.
 pub(crate) fn put_explanation<W: Write>(
     out: &mut W,
     explanation: Option<Explanation>,

@@ -32,6 +32,7 @@ fn sail<T, F: FnOnce(Machine, &mut [u64]) -> T>(call: F, places: &mut Places) ->
     answered
 }
 
+// The text is the format's of the calls, so that a Display of `Answer` would serve this program alone.
 fn put_answer<W: Write>(out: &mut W, answer: Answer) -> io::Result<()> {
     write!(
         out,

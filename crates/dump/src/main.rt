@@ -55,6 +55,7 @@ fn put_checker<W: Write>(
     put_changes(out, machine.data.start, before.iter().copied().zip(after))
 }
 
+// In the dump's text: not what `calls` writes, so that a Display would serve one of the two.
 fn put_verdict<W: Write>(out: &mut W, verdict: Verdict) -> io::Result<()> {
     match verdict {
         // A loaded record is never refused: theorem loaded_passes of card.
