@@ -27,7 +27,8 @@ pub(crate) fn put_checker<W: Write, F: FnOnce(Machine, &[u32], &mut [u32]) -> Ex
     put_explanation(out, ran.explanation)
 }
 
-// What a call answers that gives no explanation.
+// What a call answers that gives no explanation. A function, and no From: a run that was accepted has none either, so that an Outcome
+// alone does not say that none was asked for.
 pub(crate) fn unexplained(outcome: Outcome) -> Explained {
     Explained {
         verdict: outcome.verdict,

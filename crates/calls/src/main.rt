@@ -35,7 +35,8 @@ fn main(rt: HostRuntime) -> io::Result<()> {
     all(&mut rt.stdin(), &mut rt.stdout(), &mut name)
 }
 
-// This loop and `cut` stand in practice_test too, each with the program's own text: a function for both would promise nothing.
+// This loop and `cut` stand in practice_test too, each with the program's own text: a function for both would be public,
+// and have nothing to promise.
 fn all<R: Read, W: Write>(input: &mut R, out: &mut W, name: &mut [u8]) -> io::Result<()> {
     for _ in 0..CALLS {
         if !one(input, out, name)? {

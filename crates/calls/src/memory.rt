@@ -21,11 +21,11 @@ pub(crate) fn take_memory(places: &Places) -> [u64; DOUBLE_WORDS] {
     memory
 }
 
-// By places, and not by pairs of them: the borrow checker does not cover `as_chunks_mut` of a part yet.
 pub(crate) fn keep_memory(memory: &[u64; DOUBLE_WORDS], places: &mut Places) {
-    for (i, double) in memory.iter().enumerate() {
-        places[MEMORY + 2 * i] = lower(*double);
-        places[MEMORY + 2 * i + 1] = upper(*double);
+    let (_, from_memory) = places.split_at_mut(MEMORY);
+    let (pairs, _) = from_memory.as_chunks_mut::<2>();
+    for (pair, double) in pairs.iter_mut().zip(memory) {
+        *pair = [lower(*double), upper(*double)];
     }
 }
 

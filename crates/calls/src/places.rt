@@ -106,12 +106,8 @@ pub(crate) fn put_place<W: Write>(out: &mut W, place: usize) -> io::Result<()> {
     if let Some(name) = NUMBERS.get(place) {
         return write!(out, "{name}");
     }
-    for array in &ARRAYS {
-        if array.start <= place {
-            let name = array.name;
-            let index = place - array.start;
-            return write!(out, "{name}{index}");
-        }
+    match ARRAYS.iter().find(|array| array.start <= place) {
+        Some(array) => write!(out, "{}{}", array.name, place - array.start),
+        None => Ok(()),
     }
-    Ok(())
 }

@@ -102,7 +102,8 @@ pub enum Explanation {
     Jr(At, u8, Source),
 }
 
-// The same, with the explanation: none where the run is refused or accepted, or breaks another test than 21, 22, 25 and 26.
+// The same, with the explanation: none where the run is refused or accepted, or breaks another test than 21, 22, 25 and 26. No
+// Outcome in it, since the promise of `run` names its verdict and its record.
 #[derive(Clone, Copy)]
 pub struct Explained {
     pub verdict: Verdict,

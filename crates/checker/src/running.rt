@@ -8,7 +8,8 @@ use crate::checked::step;
 use crate::{At, Outcome, Verdict, Violation};
 use machine::{Machine, Refusal, State};
 
-// The verdict of a run, and the general register that its last step wrote (0 for none: R0 is never written).
+// The verdict of a run, and the general register that its last step wrote (0 for none, as its definition `target` has it:
+// R0 is never written).
 #[derive(Clone, Copy)]
 pub(crate) struct Ran {
     pub verdict: Verdict,

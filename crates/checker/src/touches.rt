@@ -23,7 +23,8 @@ pub(crate) enum Turn {
     By(u8),
 }
 
-// The general register that an effect writes, or 0: R0 is never written, so an Option would say "none" in two ways.
+// The general register that an effect writes, or 0, as its definition `target` has it: R0 is never written, so an Option would say
+// "none" in two ways.
 #[tactic(auto, unfolding(crate::specs::Seven::target))]
 pub(crate) fn written(effect: Effect) -> u8
     ensures { result ≡ target effect }

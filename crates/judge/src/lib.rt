@@ -87,7 +87,8 @@ pub fn explain(card: &[u8]) -> Option<Explanation>
 }
 
 // The line of a ruling: a function, and no Display, since it cannot fail and promises all of the line (`line_of`). The second
-// promise follows from the first; it stands here for `text`.
+// promise follows from the first; it stands here for `put_unended` of show. It is no invariant: a Line may be made up with any
+// length.
 #[tactic(auto, using(crate::proofs::Appending::texts), unfolding(crate::specs::Line::refused_text, crate::specs::Line::accepted_text, crate::specs::Line::violation_text))]
 pub fn line(ruling: Ruling) -> Line
     ensures value { result ≡ line_of (text_of ruling) }

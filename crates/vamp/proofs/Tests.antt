@@ -1,14 +1,20 @@
 -- What the tests of an answer say.
 use Prim.Native.Nat.{ℕ, ◌*◌, ◌/◌, ◌%◌, ◌^◌}
 use mathlib.Core.Path.{◌≡◌, sym, ap}
-use mathlib.Core.Bool.{Bool}
-use borrow.Author.Tests.{eq-eqb, ne_eqb, eqb-true, eqb-false}
+use mathlib.Core.Bool.{Bool, true, false}
+use borrow.Author.Tests.{eq-eqb, ne_eqb, eqb-true, eqb-false, not-false}
+use lib.Dec.{eqb}
+use Rattle.machine.specs.Effects.{unaligned}
 use Rattle.std.specs.Prelude.{Ok, Err, bit_and}
 use Rattle.std.proofs.lemmas.Nat.Bits.{and_pow}
 use Rattle.vamp.specs.Events.{OVERFLOW}
 use Rattle.vamp.specs.Steps.{took}
 use Rattle.vamp.specs.Inner.{judged, passes}
 use Rattle.vamp.specs.declared.Answer.{Answer}
+
+-- An access that is a multiple of its size
+pub even : (size a : ℕ) → unaligned size a ≡ false → a % size ≡ 0
+even size a h = eqb-true (a % size) 0 (not-false (eqb (a % size) 0) h)
 
 -- What an answer decides
 module _ {A : Type 0} (n : ℕ) (x y : A) where

@@ -8,6 +8,9 @@ use borrow.Author.Tests.{ltb-true, ltb-false}
 use lib.Dec.{ltb}
 use lib.IntN.{ℤ, pos, negsuc}
 use lib.Signed.{mag}
+use mir.Syntax.{w32}
+use mir.Val.{to_z, of_z}
+use mir.Facts.{to_z-of_z}
 use Rattle.words.specs.Fields.{signed}
 use Rattle.words.specs.Words.{used, modulus}
 use Rattle.words.proofs.Signed.{signed_low, signed_high}
@@ -47,3 +50,7 @@ module _ (h : ℕ) (z : ℤ) (small : mag z < h) (s : h ≤ 2 ^ 25) where
       by : (z : ℤ) → mag z < h → (biased h z + h) % (2 * h) ≡ modulus (2 * h) (used z)
       by (pos n) l = mod-eq-sub-mod (omega arith) ∙ mod-eq_of_lt (omega arith) ∙ omega arith
       by (negsuc n) l = mod-eq_of_lt (omega arith) ∙ omega arith
+
+-- A number in the range of an i32 is kept by its bits
+pub kept : (z : ℤ) → mag z < 2 ^ 31 → to_z w32 (of_z w32 z) ≡ z
+kept z h = to_z-of_z {w = w32} {z = z} (record { sfits = h })

@@ -30,7 +30,8 @@ pub trait Numbered: Copy {
         ensures bits { result < 64 };
 
     // The member that has a number, if one has. By a match: of a search through the members (`find`) the proof closed for groups
-    // of three and four, and not for those of five to seven.
+    // of three and four, and not for those of five to seven. An Option, and no TryFrom: a number that no member has is `?` in the
+    // reader.
     fn with_number(number: u32) -> Option<Self>
         ensures value { result ≡ find (λ k. number_of k == number) members }
         ensures number { IfSome result (λ k. number_of k ≡ number) };

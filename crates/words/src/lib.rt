@@ -126,7 +126,7 @@ pub enum StoreKind {
     Sw = 0x2B,
 }
 
-// The general registers that an instruction reads, in order: RS1, then RS2 or a store's RD.
+// The general registers that an instruction reads, in order: RS1, then RS2 or a store's RD. None is one of three numbers of them.
 #[derive(Clone, Copy)]
 pub enum Reads {
     None,
@@ -134,7 +134,8 @@ pub enum Reads {
     Two(u8, u8),
 }
 
-// What an instruction does with the special registers.
+// What an instruction does with the special registers. None is a kind of its own, a column's value in the table of
+// specs/Touches.antt.
 #[derive(Clone, Copy)]
 pub enum Special {
     None,
