@@ -15,11 +15,23 @@ use Rattle.checker.specs.declared.Verdict.TheVariants.{Refused, Accepted, Violat
 use Rattle.checker.specs.declared.retracing.Retraced.{Retraced}
 use Rattle.checker.specs.declared.touches.Turn.{Turn}
 use Rattle.checker.specs.declared.touches.Turn.TheVariants.{On, Taken, By}
-use Rattle.checker.specs.Inner.{Rooms, Passed, Answered, Retraces, noted_source, led_by, addressed_by}
+use Rattle.checker.specs.Inner.{Rooms, Passed, Answered, Retraces, noted_source}
 use Rattle.checker.specs.Runs.{running, run_refusal, runs, taking, verdict_answer}
 use Rattle.checker.specs.Seven.{turn, before, word_of, place_of, source_of, led, addressed, explanation, explaining}
 use Rattle.checker.proofs.Refusals.{refusal_numbers, run_rooms}
 use Rattle.checker.proofs.Theorems.{Fine, First, ends, accepts, stops_at, answer, count, values}
+
+-- What led to the second step from there, and what the address of the next step is made of, by what was retraced
+abbrev pub led_by : Retraced → Explanation
+led_by r =
+    elim (turn r.next.word r.state.gpr) [
+      | On ↦ because.RanOn
+      | Taken ↦ because.Transfer r.next
+      | By n ↦ because.Jr r.next n (noted_source r.writers n)
+    ]
+
+abbrev pub addressed_by : Retraced → Explanation
+addressed_by r = because.Register (rs1 r.next.word) (noted_source r.writers (rs1 r.next.word))
 
 -- What led to a step by how the word two steps before it, at step j, left PC'
 module _ (c d : Region) (code : List ℕ) (p : State × List ℕ) where
@@ -74,6 +86,10 @@ module _ (m : Machine) (code ws : List ℕ) where
       by On = refl
       by Taken = refl
       by (By n) = rw (noted_source_lem n j r h)
+
+  -- The step two back from one that is not the first or the second
+  pub led_back : {e : Explanation} (k j : ℕ) → (2 ≤ k) × (j ≡ k - 2) → e ≡ led m.code m.«data» code (state_of m, ws) (suc (suc j)) → e ≡ led m.code m.«data» code (state_of m, ws) k
+  led_back k j l q = let s : k ≡ suc (suc j) = omega arith in rw s q
 
 -- ---- What a call says
 

@@ -1,6 +1,6 @@
 -- What the private functions of the checked step and of the explanation promise each other, over the definitions of Checks and Seven.
 use Rattle.std.specs.Prelude.{◌≡◌, ℕ, suc, ◌-◌, ◌*◌, ◌%◌, ◌<◌, ◌≤◌, true, false, not, List, [], ◌∷◌, length, ◌==◌, slice_index, slice_index_or, Option, Some, None, Result, Ok, Err}
-use Rattle.words.specs.Fields.{pick, rs1}
+use Rattle.words.specs.Fields.{pick}
 use Rattle.machine.specs.declared.Machine.{Machine}
 use Rattle.machine.specs.declared.Region.{Region}
 use Rattle.machine.specs.Effects.{State, act, unaligned}
@@ -15,11 +15,8 @@ use Rattle.checker.specs.declared.Verdict.TheVariants.{Refused, Accepted, Violat
 use Rattle.checker.specs.declared.At.{At}
 use Rattle.checker.specs.declared.Source.{Source}
 use Rattle.checker.specs.declared.Source.TheVariants as from
-use Rattle.checker.specs.declared.Explanation.{Explanation}
-use Rattle.checker.specs.declared.Explanation.TheVariants as because
 use Rattle.checker.specs.declared.retracing.Retraced.{Retraced}
-use Rattle.checker.specs.declared.touches.Turn.TheVariants as turns
-use Rattle.checker.specs.Seven.{target, turn, before, place_of, writes, last_writer}
+use Rattle.checker.specs.Seven.{target, before, place_of, writes, last_writer}
 
 -- A region lies in its list
 abbrev pub Room : Region → List ℕ → Type 0
@@ -95,15 +92,3 @@ Retraces m code ws n r =
     (r.next ≡ place_of m.code m.«data» code p n)
     × (r.state ≡ before m.code m.«data» code p n)
     × ((k : ℕ) → 0 < k → k < 32 → noted_of r.writers k ≡ last_writer m.code m.«data» code p k n)
-
--- What led to the second step from there, and what the address of the next step is made of, by what was retraced
-abbrev pub led_by : Retraced → Explanation
-led_by r =
-    elim (turn r.next.word r.state.gpr) [
-      | turns.On ↦ because.RanOn
-      | turns.Taken ↦ because.Transfer r.next
-      | turns.By n ↦ because.Jr r.next n (noted_source r.writers n)
-    ]
-
-abbrev pub addressed_by : Retraced → Explanation
-addressed_by r = because.Register (rs1 r.next.word) (noted_source r.writers (rs1 r.next.word))

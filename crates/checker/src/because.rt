@@ -1,8 +1,11 @@
 // Where the bad address of a violation came from: the run's steps are taken once more, with the last writers noted.
 ghost use Rattle.std.specs.Prelude.{◌≡◌};
-ghost use Rattle.checker.specs.Inner.{Answered, led_by, addressed_by, noted_source};
+ghost use Rattle.std.specs.Prelude.{ℕ, suc, List};
+ghost use Rattle.machine.specs.declared.Machine.{Machine};
+ghost use Rattle.machine.specs.Record.{state_of};
+ghost use Rattle.checker.specs.Inner.{Answered, Retraces, noted_source};
 ghost use Rattle.checker.specs.Runs.{verdict_answer};
-ghost use Rattle.checker.specs.Seven.{explaining};
+ghost use Rattle.checker.specs.Seven.{explaining, led as led_lem, addressed as addressed_lem};
 
 use crate::retracing::{Retraced, retrace};
 use crate::touches::{Turn, turned};
@@ -39,7 +42,7 @@ pub(crate) fn explain(
 impl Retraced {
     // What led to the DPC of the second step from there: for 21 and 22.
     fn led(&self) -> Explanation
-        ensures { result ≡ led_by self.now }
+        ensures { (m : Machine) (code ws : List ℕ) (j : ℕ) → Retraces m code ws j self.now → result ≡ led_lem m.code m.«data» code (state_of m, ws) (suc (suc j)) }
     {
         match turned(Word(self.next.word), &self.state) {
             Turn::On => Explanation::RanOn,
@@ -50,7 +53,7 @@ impl Retraced {
 
     // What the address of the step that comes next is made of: for 25 and 26.
     fn addressed(&self) -> Explanation
-        ensures { result ≡ addressed_by self.now }
+        ensures { (m : Machine) (code ws : List ℕ) (j : ℕ) → Retraces m code ws j self.now → result ≡ addressed_lem m.code m.«data» code (state_of m, ws) j }
     {
         let number = Word(self.next.word).rs1();
         Explanation::Register(number, self.source_of(number))

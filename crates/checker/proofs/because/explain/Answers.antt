@@ -1,11 +1,11 @@
-use Rattle.std.proofs.Common.{◌≡◌, ap, refl, inl, inr, ◌∙◌, Some, None}
+use Rattle.std.proofs.Common.{◌≡◌, ap, refl, inl, inr, Some, None}
 use Rattle.checker.specs.declared.Verdict.{Verdict}
 use Rattle.checker.specs.declared.Verdict.TheVariants as a
 use Rattle.checker.specs.declared.Violation.{Violation}
 use Rattle.checker.specs.Inner.{Answered}
 use Rattle.checker.specs.Runs.{verdict_answer}
 use Rattle.checker.specs.Seven.{explanation, explaining}
-use Rattle.checker.proofs.Noted.{addressed_told, led_start, led_told, refused_none}
+use Rattle.checker.proofs.Noted.{led_back, led_start, refused_none}
 use Rattle.checker.proofs.because.explain.Goals as goal
 
 pub returns-in_default : goal.returns-in_default
@@ -21,7 +21,7 @@ returns-in_default c = by c.args.verdict c.in_default.not-Violation c.requires
 pub returns-in-Some : goal.returns-in-Some
 unfolding explanation
 returns-in-Some c =
-    let e = c.led.ensures ∙ led_told c.args.machine c.args.code.now c.args.words.now _ _ c.retrace.result c.in-Some.ensures c.retrace.ensures in
+    let e = led_back c.args.machine c.args.code.now c.args.words.now _ _ c.in-Some.ensures (c.led.ensures c.args.machine c.args.code.now c.args.words.now _ c.retrace.ensures) in
     elim c.in-Misaligned.is [ inl h ↦ rw (c.in-Violation.is, h) (ap Some e) | inr h ↦ rw (c.in-Violation.is, h) (ap Some e) ]
 
 pub returns-in-None : goal.returns-in-None
@@ -33,7 +33,7 @@ returns-in-None c =
 pub returns-in-Askew : goal.returns-in-Askew
 unfolding explanation
 returns-in-Askew c =
-    let e = c.addressed.ensures ∙ addressed_told c.args.machine c.args.code.now c.args.words.now _ c.retrace-in-Askew.result c.retrace-in-Askew.ensures in
+    let e = c.addressed.ensures c.args.machine c.args.code.now c.args.words.now _ c.retrace-in-Askew.ensures in
     elim c.in-Askew.is [ inl h ↦ rw (c.in-Violation.is, h) (ap Some e) | inr h ↦ rw (c.in-Violation.is, h) (ap Some e) ]
 
 pub returns-in-Illegal : goal.returns-in-Illegal
