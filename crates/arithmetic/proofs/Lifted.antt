@@ -1,8 +1,9 @@
 -- Words lifted by 2 ^ 31: their order is that of the numbers meant, and their quotients are those numbers', rounded down.
-use Rattle.std.proofs.Common.{◌≡◌, ℕ, suc, ◌+◌, ◌-◌, ◌*◌, ◌/◌, ◌%◌, ◌^◌, ◌<◌, ◌≤◌, Bool, true, false, ltb, ℤ, pos, negsuc, sym, refl, ap, ◌∙◌, subst, ap₂, mod-lt, div-lt_iff_lt-mul, add-mul, arith, pow_pos, pow_mono, pow-add, ltb-false, ltb-true, le-ltb, lt-ltb}
+use Rattle.std.proofs.Common.{◌≡◌, ℕ, suc, ◌+◌, ◌-◌, ◌*◌, ◌/◌, ◌%◌, ◌^◌, ◌<◌, ◌≤◌, Bool, true, false, not, ltb, leb, ℤ, pos, negsuc, sym, refl, ap, ◌∙◌, subst, ap₂, mod-lt, div-lt_iff_lt-mul, add-mul, arith, pow_pos, pow_mono, pow-add, ltb-false, ltb-true, le-ltb, lt-ltb, le-leb}
 use native.Mathlib.Nat.{add-mul-div_right}
+use borrow.Author.Tests.{lt-leb}
 use lib.Pow.{shl-shr, high, split}
-use lib.Signed.{mag, lt_z, shr_z}
+use lib.Signed.{mag, lt_z, le_z, shr_z}
 use Rattle.words.specs.Fields.{signed}
 use Rattle.words.proofs.Halves.{signed_small, biased, lift_is}
 use Rattle.arithmetic.specs.Rulings.{minus, integer, sext}
@@ -25,6 +26,20 @@ lifted_order h (negsuc a) (negsuc b) p q = ordered b a (h - suc a) (h - suc b) (
 pub lifted_less : (a b : ℕ) → a < 2 ^ 32 → b < 2 ^ 32 → ltb ((a + 2 ^ 31) % 2 ^ 32) ((b + 2 ^ 31) % 2 ^ 32) ≡ lt_z (integer a) (integer b)
 lifted_less a b la lb = ap₂ ltb (lift_is (2 ^ 31) a la) (lift_is (2 ^ 31) b lb) ∙ lifted_order (2 ^ 31) (integer a) (integer b) (signed_small (2 ^ 31) a la) (signed_small (2 ^ 31) b lb)
 
+-- At most is not greater
+leb_not : (a b : ℕ) → leb a b ≡ not (ltb b a)
+leb_not a b = by (ltb b a) refl
+  where
+    by : (t : Bool) → ltb b a ≡ t → leb a b ≡ not t
+    by true e = lt-leb a b (ltb-true b a e)
+    by false e = le-leb a b (ltb-false b a e)
+
+pub at_most : (y z : ℤ) → le_z y z ≡ not (lt_z z y)
+at_most (pos a) (pos b) = leb_not a b
+at_most (pos a) (negsuc b) = refl
+at_most (negsuc a) (pos b) = refl
+at_most (negsuc a) (negsuc b) = leb_not b a
+
 -- A lifted number shifted to the right is the number divided and rounded down, lifted by what the lift has become
 module _ (p q : ℕ) where
   shift_small : (z : ℤ) → mag z < q * 2 ^ p → mag (shr_z z (2 ^ p)) < q
@@ -45,7 +60,7 @@ module _ (p q : ℕ) where
           omega arith
 
 -- The lift taken off again, modulo 2 ^ 32, leaves the word of the number
-lowered : (q : ℕ) (z : ℤ) → mag z < q → q ≤ 2 ^ 31 → minus (biased q z) q ≡ sext z
+pub lowered : (q : ℕ) (z : ℤ) → mag z < q → q ≤ 2 ^ 31 → minus (biased q z) q ≡ sext z
 unfolding minus sext
 lowered q (pos n) l s = omega arith
 lowered q (negsuc n) l s = omega arith

@@ -1,18 +1,9 @@
 -- What the code shifts: nothing is lost where a part lies inside a double word.
-use Prim.Native.Nat.{ℕ, suc, ◌+◌, ◌-◌, ◌*◌, ◌/◌, ◌%◌, ◌^◌, ◌≤◌, ◌<◌}
-use mathlib.Core.Path.{◌≡◌, refl, sym, ap, ◌∙◌}
-use mathlib.Core.Bool.{Bool, true, false}
+use Prim.Native.Nat.{ℕ, ◌+◌, ◌-◌, ◌*◌, ◌/◌, ◌%◌, ◌^◌, ◌≤◌, ◌<◌}
+use mathlib.Core.Path.{◌≡◌, sym, ap, ◌∙◌}
 use native.Mathlib.Nat.{mod-lt, add-mul}
 use native.Mathlib.Omega.{arith}
-use borrow.Author.Tests.{ltb-true, ltb-false}
-use lib.Dec.{ltb}
 use lib.Pow.{pow_pos, shl_exact, shr-shr, split}
-use mir.Syntax.{Width, w8, w16, w32}
-use mir.Val.{bits, hbits, to_z, of_z}
-use Rattle.words.specs.Fields.{signed}
-use Rattle.words.proofs.Signed.{signed_low, signed_high}
-use Rattle.arithmetic.specs.Rulings.{sext}
-use Rattle.arithmetic.proofs.Integers.{sext_is}
 use Rattle.vamp.specs.Memory.{patch}
 use Rattle.vamp.proofs.Memory.{patch_below}
 
@@ -50,21 +41,3 @@ module _ (b k x v : ℕ) (lb : b ≤ 32) (lk : 8 * k + b ≤ 64) (lx : x < 2 ^ 6
 
   pub patched_fits : x - old * 2 ^ (8 * k) % 2 ^ 64 + new * 2 ^ (8 * k) % 2 ^ 64 < 2 ^ 64
   patched_fits = rw patched_is (patch_below b k 64 x v lx lk)
-
--- A number of w bits, its sign extended
-module _ (w : Width) (x : ℕ) (fits : x < 2 ^ bits w) (halves : 2 ^ bits w ≡ 2 * 2 ^ hbits w) where
-  turned : to_z w x ≡ signed (2 ^ hbits w) x
-  turned = by (ltb x (2 ^ hbits w)) refl
-    where
-      by : (t : Bool) → ltb x (2 ^ hbits w) ≡ t → to_z w x ≡ signed (2 ^ hbits w) x
-      by true t = rw (signed_low (2 ^ hbits w) x (ltb-true x (2 ^ hbits w) t), t)
-      by false t = rw (signed_high (2 ^ hbits w) x (2 ^ bits w - suc x) (ltb-false x (2 ^ hbits w) t) (omega arith), t)
-
-  extended : of_z w32 (to_z w x) ≡ sext (signed (2 ^ hbits w) x)
-  extended = ap (of_z w32) turned ∙ sext_is (signed (2 ^ hbits w) x)
-
-pub byte_extended : (x : ℕ) → x < 2 ^ 8 → of_z w32 (to_z w8 x) ≡ sext (signed (2 ^ 7) x)
-byte_extended x l = extended w8 x l refl
-
-pub half_extended : (x : ℕ) → x < 2 ^ 16 → of_z w32 (to_z w16 x) ≡ sext (signed (2 ^ 15) x)
-half_extended x l = extended w16 x l refl

@@ -1,11 +1,14 @@
 // Memory by double words: their parts of 8, 16 and 32 bits.
-ghost use Rattle.std.specs.Prelude.{false, ◌≡◌, ◌+◌, ◌*◌, ◌/◌, ◌%◌, ◌≤◌, ◌<◌};
+ghost use Rattle.std.specs.Prelude.{false, ◌≡◌, ◌+◌, ◌*◌, ◌/◌, ◌%◌, ◌^◌, ◌≤◌, ◌<◌};
+ghost use Rattle.words.specs.Fields.{signed};
+ghost use Rattle.arithmetic.specs.Rulings.{sext};
 ghost use Rattle.machine.specs.Effects.{store_size, unaligned, askew};
 ghost use Rattle.machine.specs.Record.{MEMORY};
 ghost use Rattle.vamp.specs.Events.{access_past};
 ghost use Rattle.vamp.specs.Steps.{found, memory_after};
 ghost use Rattle.vamp.specs.Memory.{part, patch, at, put, loaded, stored};
 
+use arithmetic::difference;
 use machine::{Effect, Machine};
 use words::{LoadKind, StoreKind};
 
@@ -54,28 +57,37 @@ pub(crate) fn carry(effect: Effect, memory: &mut Memory) -> u32
             store(kind, memory, Address::of(number), value);
             0
         }
-        _ => 0,
+        Effect::Put(..)
+        | Effect::PutSpecial(..)
+        | Effect::Sum(..)
+        | Effect::Trap(_)
+        | Effect::Return
+        | Effect::Nothing => 0,
     }
 }
 
 // lb and lh extend the sign, lbu and lhu by zeros.
-#[tactic(auto, using(crate::proofs::Memory::part_below, crate::proofs::Shifts::byte_extended, crate::proofs::Shifts::half_extended), unfolding(crate::specs::Memory::loaded))]
+#[tactic(auto, using(crate::proofs::Memory::part_below), unfolding(crate::specs::Memory::loaded))]
 fn load(kind: LoadKind, memory: &Memory, address: Address) -> u32
     ensures { result ≡ loaded kind memory.now address.number }
 {
     match kind {
-        LoadKind::Lb => {
-            let byte = read::<8>(memory, address) as u8;
-            i32::from(byte.cast_signed()).cast_unsigned()
-        }
-        LoadKind::Lh => {
-            let half = read::<16>(memory, address) as u16;
-            i32::from(half.cast_signed()).cast_unsigned()
-        }
+        LoadKind::Lb => extended::<128>(read::<8>(memory, address)),
+        LoadKind::Lh => extended::<32768>(read::<16>(memory, address)),
         LoadKind::Lw => read::<32>(memory, address),
         LoadKind::Lbu => read::<8>(memory, address),
         LoadKind::Lhu => read::<16>(memory, address),
     }
+}
+
+// A number below twice HALF with its sign extended: the two halves of its range change places, and half the range is taken off
+// again.
+#[tactic(auto, using(arithmetic::proofs::Lifted::extended_is))]
+fn extended<const HALF: u32>(x: u32) -> u32
+    requires { (0 < HALF) × (HALF ≤ 2 ^ 15) × (x < 2 * HALF) }
+    ensures { result ≡ sext (signed HALF x) }
+{
+    difference((x + HALF) % (2 * HALF), HALF)
 }
 
 // The low bits of a value are stored.

@@ -76,7 +76,7 @@ impl Word {
     }
 
     // The two halves of the field's range change places, and half the range is taken off again: no branch.
-    #[tactic(auto, using(crate::proofs::Signed::turned_reads))]
+    #[tactic(auto, using(crate::proofs::Halves::turned_reads))]
     fn immediate<const HALF: u32>(self) -> i32
         requires { (0 < HALF) × (HALF ≤ 2 ^ 30) }
         ensures { result ≡ signed HALF (self.0 % (2 * HALF)) }

@@ -55,5 +55,6 @@ fn modulo<const HALF: u32>(imm: i32) -> Option<u32>
     if imm < -half || half <= imm {
         return None;
     }
-    Some(imm.rem_euclid(2 * half) as u32)
+    let turned = (imm + half) as u32;
+    Some((turned + HALF) % (2 * HALF))
 }
