@@ -31,7 +31,11 @@ pub(crate) fn written(effect: Effect) -> u8
 {
     match effect {
         Effect::Put(n, _) | Effect::Sum(n, _, _) | Effect::Load(_, n, _) => n % 32,
-        _ => 0,
+        Effect::PutSpecial(..)
+        | Effect::Store(..)
+        | Effect::Trap(_)
+        | Effect::Return
+        | Effect::Nothing => 0,
     }
 }
 

@@ -177,9 +177,14 @@ illegal w = (reading w).0 == 23
 
 -- Size and effective address of a load or store
 unfoldable pub access : Effect → Option (ℕ × ℕ)
+access (does.Put n x) = none
+access (does.PutSpecial n x) = none
+access (does.Sum n x o) = none
 access (does.Load k n a) = some (load_size k, a)
 access (does.Store k a x) = some (store_size k, a)
-access e = none
+access (does.Trap z) = none
+access does.Return = none
+access does.Nothing = none
 
 -- An address that is not a multiple of a size
 abbrev pub unaligned : ℕ → ℕ → Bool
@@ -191,5 +196,11 @@ askew e = elim (access e) [ some p ↦ unaligned p.0 p.1 | none ↦ false ]
 
 -- movi2s to MODE of a value other than 0
 unfoldable pub mode_set : Effect → Bool
+mode_set (does.Put n x) = false
 mode_set (does.PutSpecial n x) = n == MODE && not (x == 0)
-mode_set e = false
+mode_set (does.Sum n x o) = false
+mode_set (does.Load k n a) = false
+mode_set (does.Store k a x) = false
+mode_set (does.Trap z) = false
+mode_set does.Return = false
+mode_set does.Nothing = false

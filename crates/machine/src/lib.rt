@@ -198,7 +198,13 @@ impl Effect {
     {
         match self {
             Effect::PutSpecial(number, value) => number as usize == Machine::MODE && value != 0,
-            _ => false,
+            Effect::Put(..)
+            | Effect::Sum(..)
+            | Effect::Load(..)
+            | Effect::Store(..)
+            | Effect::Trap(_)
+            | Effect::Return
+            | Effect::Nothing => false,
         }
     }
 }

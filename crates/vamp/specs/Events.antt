@@ -53,13 +53,25 @@ access_past e = elim (access e) [ some p ↦ unmodelled p.1 | none ↦ false ]
 
 -- trap
 unfoldable pub trapped : Effect → Bool
+trapped (does.Put n x) = false
+trapped (does.PutSpecial n x) = false
+trapped (does.Sum n x o) = false
+trapped (does.Load k n a) = false
+trapped (does.Store k a x) = false
 trapped (does.Trap z) = true
-trapped _ = false
+trapped does.Return = false
+trapped does.Nothing = false
 
 -- addo, addio, subo, subio whose signed result is below -2 ^ 31 or above 2 ^ 31 - 1
 unfoldable pub overflowed : Effect → Bool
+overflowed (does.Put n x) = false
+overflowed (does.PutSpecial n x) = false
 overflowed (does.Sum n x o) = o
-overflowed _ = false
+overflowed (does.Load k n a) = false
+overflowed (does.Store k a x) = false
+overflowed (does.Trap z) = false
+overflowed does.Return = false
+overflowed does.Nothing = false
 
 -- SR bit 6 is 0
 unfoldable pub overflow_masked : List ℕ → Bool

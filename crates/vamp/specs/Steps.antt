@@ -15,13 +15,25 @@ use Rattle.vamp.specs.declared.Answer.TheVariants as says
 
 -- What the load of an effect finds in memory; nothing else finds anything
 unfoldable pub found : Effect → List ℕ → ℕ
+found (does.Put n x) mem = 0
+found (does.PutSpecial n x) mem = 0
+found (does.Sum n x o) mem = 0
 found (does.Load k n a) mem = loaded k mem a
-found _ mem = 0
+found (does.Store k a x) mem = 0
+found (does.Trap z) mem = 0
+found does.Return mem = 0
+found does.Nothing mem = 0
 
 -- Memory after an effect: only a store changes it
 unfoldable pub memory_after : Effect → List ℕ → List ℕ
+memory_after (does.Put n x) mem = mem
+memory_after (does.PutSpecial n x) mem = mem
+memory_after (does.Sum n x o) mem = mem
+memory_after (does.Load k n a) mem = mem
 memory_after (does.Store k a x) mem = stored k mem a x
-memory_after _ mem = mem
+memory_after (does.Trap z) mem = mem
+memory_after does.Return mem = mem
+memory_after does.Nothing mem = mem
 
 -- The registers and memory of the VAMP machine
 abbrev pub Vamp : Type 0
