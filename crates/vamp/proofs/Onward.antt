@@ -1,21 +1,20 @@
 -- A sequence of steps, step by step.
 use Prim.Native.Nat.{ℕ, suc, ◌+◌, ◌-◌, ◌≤◌, ◌<◌}
-use mathlib.Core.Path.{◌≡◌, refl, sym, ap, ap₂, ◌∙◌}
-use mathlib.Core.Bool.{Bool, true, false, true≢false}
+use mathlib.Core.Path.{◌≡◌, refl, sym, ap, ◌∙◌}
+use mathlib.Core.Bool.{Bool, true, false}
 use native.Mathlib.Omega.{arith}
 use borrow.Author.Tests.{eq-eqb, ne_eqb}
 use lib.Dec.{eqb}
 use mir.Val.{bool_byte}
 use denote.Enum.Bare.{sameb}
-use Rattle.std.specs.Prelude.{Result, Ok, Err}
 use Rattle.words.specs.Fields.{pick}
 use Rattle.vamp.specs.Events.{fetched, event}
 use Rattle.vamp.specs.Steps.{Vamp, Course, answered, carried, vstep, onward, further, stopped, reported}
-use Rattle.vamp.specs.Inner.{judged, passes, course}
+use Rattle.vamp.specs.Inner.{course}
 use Rattle.vamp.specs.contracts.Answer.{the_type}
 use Rattle.vamp.specs.declared.Answer.{Answer}
 use Rattle.vamp.specs.declared.Answer.TheVariants as says
-use Rattle.vamp.proofs.Tests.{took_yes, took_not, passing, stopping}
+use Rattle.vamp.proofs.Tests.{took_yes, took_not}
 
 -- The one whose next step is taken
 pub onward_yes : (n : ℕ) (c : Course) → (vstep c.left).0.0 ≡ 0 → onward (suc n) c ≡ onward n (further c (vstep c.left))
@@ -46,44 +45,38 @@ reported_most ca = by (eqb ca 0)
     by false = omega arith
 
 -- The test that counts them, of the answer of a step that is taken
-pub reported_is : (a : Answer) (e : ℕ × ℕ) → judged (Ok a) ≡ passes e → bool_byte (sameb the_type a says.Masked) ≡ reported (answered a).1
-reported_is a e j = by a (ap (λ (z : Bool × (ℕ × ℕ)). z.0) j ∙ sym (ap (λ (z : Bool × (ℕ × ℕ)). eqb z.1.0 0) j))
-  where
-    by : (a : Answer) → true ≡ eqb (answered a).0 0 → bool_byte (sameb the_type a says.Masked) ≡ reported (answered a).1
-    by says.Stepped h = refl
-    by says.Masked h = refl
-    by says.Misaligned h = absurd (true≢false h)
-    by says.Illegal h = absurd (true≢false h)
-    by says.Trap h = absurd (true≢false h)
-    by says.Overflow h = absurd (true≢false h)
-    by says.PastMemory h = absurd (true≢false h)
-    by says.Mode h = absurd (true≢false h)
-    by says.WrongLength h = absurd (true≢false h)
-    by says.NotZero h = absurd (true≢false h)
+pub reported_is : (a : Answer) → (answered a).0 ≡ 0 → bool_byte (sameb the_type a says.Masked) ≡ reported (answered a).1
+reported_is says.Stepped h = refl
+reported_is says.Masked h = refl
+reported_is says.Misaligned h = absurd (omega arith)
+reported_is says.Illegal h = absurd (omega arith)
+reported_is says.Trap h = absurd (omega arith)
+reported_is says.Overflow h = absurd (omega arith)
+reported_is says.PastMemory h = absurd (omega arith)
+reported_is says.Mode h = absurd (omega arith)
+reported_is says.WrongLength h = absurd (omega arith)
+reported_is says.NotZero h = absurd (omega arith)
 
--- The same for a loop that has gone k of n steps, by what the next step answers and what it leaves
-module _ (n k : ℕ) (c : Course) (l : k < n) (r : Result Answer Answer) (j : judged r ≡ passes (vstep c.left).0) (y : Vamp) (left : y ≡ (vstep c.left).1) (a : Answer) where
+-- The same for a loop that has gone k of n steps
+module _ (n k : ℕ) (c : Course) (r : (ℕ × ℕ) × Vamp) (l : k < n) (e : r ≡ vstep c.left) where
   left_is : n - k ≡ suc (n - (k + 1))
   left_is = omega arith
 
-  pub goes_on : r ≡ Ok a → (m : ℕ) → m ≡ c.masked + reported (answered a).1 → onward (n - k) c ≡ onward (n - (k + 1)) (course (c.steps + 1) (answered a) m y)
-  goes_on e m q =
-      let f : judged (Ok a) ≡ passes (vstep c.left).0 = ap judged (sym e) ∙ j in
+  pub goes_on : r.0.0 ≡ 0 → (m : ℕ) → m ≡ c.masked + reported r.0.1 → onward (n - k) c ≡ onward (n - (k + 1)) (course (c.steps + 1) r.0 m r.1)
+  goes_on h m q =
       ap (λ (m : ℕ). onward m c) left_is
-      ∙ onward_yes (n - (k + 1)) c (passing a (vstep c.left).0 f)
-      ∙ ap₂ (λ (b : ℕ × ℕ) (x : Vamp). onward (n - (k + 1)) (further c (b, x))) (ap (λ (z : Bool × (ℕ × ℕ)). z.1) (sym f)) (sym left)
-      ∙ ap (λ (m : ℕ). onward (n - (k + 1)) (course (c.steps + 1) (answered a) m y)) (sym q)
+      ∙ onward_yes (n - (k + 1)) c (ap (λ (z : (ℕ × ℕ) × Vamp). z.0.0) (sym e) ∙ h)
+      ∙ ap (λ (z : (ℕ × ℕ) × Vamp). onward (n - (k + 1)) (further c z)) (sym e)
+      ∙ ap (λ (m : ℕ). onward (n - (k + 1)) (course (c.steps + 1) r.0 m r.1)) (sym q)
 
-  pub stops : r ≡ Err a → onward (n - k) c ≡ course c.steps (answered a) c.masked y
-  stops e =
-      let f : judged (Err a) ≡ passes (vstep c.left).0 = ap judged (sym e) ∙ j in
-      let h : (vstep c.left).0.0 ≡ 0 → ⊥ = stopping a (vstep c.left).0 f in
+  pub stops : (r.0.0 ≡ 0 → ⊥) → onward (n - k) c ≡ course c.steps r.0 c.masked r.1
+  stops h =
+      let g : (vstep c.left).0.0 ≡ 0 → ⊥ = λ z. h (ap (λ (z : (ℕ × ℕ) × Vamp). z.0.0) e ∙ z) in
       ap (λ (m : ℕ). onward m c) left_is
-      ∙ onward_not (n - (k + 1)) c h
-      ∙ ap₂ (λ (b : ℕ × ℕ) (x : Vamp). course c.steps b c.masked x) (ap (λ (z : Bool × (ℕ × ℕ)). z.1) (sym f)) (sym (left ∙ step_kept c.left h))
+      ∙ onward_not (n - (k + 1)) c g
+      ∙ ap (λ (x : Vamp). course c.steps (vstep c.left).0 c.masked x) (sym (step_kept c.left g))
+      ∙ ap (λ (z : (ℕ × ℕ) × Vamp). course c.steps z.0 c.masked z.1) (sym e)
 
-pub ends : (n k : ℕ) (a : ℕ × ℕ) (m : ℕ) (x : Vamp) → n ≤ k → k ≤ n → onward (n - k) (course k a m x) ≡ course n a m x
+pub ends : (n k : ℕ) (c : Course) → n ≤ k → onward (n - k) c ≡ c
 unfolding onward
-ends n k a m x l h =
-    ap (λ (j : ℕ). onward j (course k a m x)) (let e : n - k ≡ 0 = omega arith in e)
-    ∙ ap (λ (j : ℕ). course j a m x) (let e : k ≡ n = omega arith in e)
+ends n k c l = ap (λ (m : ℕ). onward m c) (let e : n - k ≡ 0 = omega arith in e)

@@ -8,6 +8,9 @@ use crate::lanes::{Address, Memory};
 use crate::{Answer, Ran, events, lanes};
 use machine::{Machine, State};
 
+// The number of a step that is taken: a run goes on behind it.
+const TAKEN: u32 = 0;
+
 // Up to `limit` steps, that stop before the first one whose answer is not 0.
 pub(crate) fn go(machine: Machine, memory: &mut Memory, limit: u32) -> Ran
     ensures { (result.steps, answered result.answer, result.masked, result.machine, memory.new) ≡ course_of machine (onward limit (start (state_of machine, memory.old))) }
@@ -16,20 +19,17 @@ pub(crate) fn go(machine: Machine, memory: &mut Memory, limit: u32) -> Ran
     let mut answer = Answer::Stepped;
     let mut masked = 0;
     for taken in 0..limit {
-        match one(&mut state, memory) {
-            Ok(said) => {
-                answer = said;
-                masked += u32::from(said == Answer::Masked);
-            }
-            Err(said) => {
-                return Ran {
-                    steps: taken,
-                    answer: said,
-                    masked,
-                    machine: machine.with_state(state),
-                };
-            }
+        let said = told(one(&mut state, memory));
+        if said.number() != TAKEN {
+            return Ran {
+                steps: taken,
+                answer: said,
+                masked,
+                machine: machine.with_state(state),
+            };
         }
+        answer = said;
+        masked += u32::from(said == Answer::Masked);
     }
     Ran {
         steps: limit,
@@ -37,6 +37,14 @@ pub(crate) fn go(machine: Machine, memory: &mut Memory, limit: u32) -> Ran
         masked,
         machine: machine.with_state(state),
     }
+}
+
+// What a step answers, taken or not.
+fn told(said: Result<Answer, Answer>) -> Answer
+    ensures { answered result ≡ (judged said).1 }
+{
+    let (Ok(answer) | Err(answer)) = said;
+    answer
 }
 
 // One step: the events in their order, and what the word does where none stops it. `Ok` is the answer of a step that is taken;

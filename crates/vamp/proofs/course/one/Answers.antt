@@ -34,4 +34,4 @@ pub returns : goal.returns
 returns c =
     let r = readable _ _ (c.read.ensures ∙ ap reading (c.read-word.ensures ∙ ap (at 32 c.args.memory.now) c.of.ensures)) _ (sym c.ok_or.ensures.value ∙ c.in_ok-instruction.was) in
     let p = goes _ _ _ c.in_ok-access.ensures _ r _ _ c.meaning-act.ensures _ c.in_ok-answer.ensures _ c.carry-loaded.ensures.0 _ c.carry-loaded.ensures.1 _ c.apply.ensures in
-    record { answer = p.0; left = p.1 }
+    record { answer = p.0; left = rw c.apply.ensures (rw c.apply.ensures at p.1) }
