@@ -1,7 +1,7 @@
 -- The explanation by what is noted of the steps taken once more.
 use Rattle.std.proofs.Common.{◌≡◌, ℕ, zero, suc, ◌+◌, ◌-◌, ◌%◌, ◌≤◌, Bool, true, false, eqb, ◌⊎◌, List, [], length, get_or, refl, ◌∙◌, inl, inr, arith, ne_eqb}
-use borrow.Author.Tests.{eqb-false}
-use Rattle.std.specs.Prelude.{None}
+use borrow.Author.Tests.{eqb-false, eqb-true}
+use Rattle.std.specs.Prelude.{Some, None}
 use Rattle.words.specs.Fields.{rs1}
 use Rattle.machine.specs.declared.Machine.{Machine}
 use Rattle.machine.specs.declared.Region.{Region}
@@ -49,6 +49,22 @@ module _ (c d : Region) (code : List ℕ) (p : State × List ℕ) (v k : ℕ) wh
   unfolding explanation
   none_told q r s t = rw (ne_eqb v 21 q, ne_eqb v 22 r, ne_eqb v 25 s, ne_eqb v 26 t)
 
+  pub led_told : 21 ≤ v → v ≤ 22 → Some (led c d code p k) ≡ explanation c d code p v k
+  unfolding explanation
+  led_told l h = by (eqb v 21) refl
+    where
+      by : (t : Bool) → eqb v 21 ≡ t → Some (led c d code p k) ≡ explanation c d code p v k
+      by true e = rw e
+      by false e = let n : v ≡ 21 → ⊥ = eqb-false v 21 e in let q : v ≡ 22 = omega arith in rw q
+
+  pub addressed_told : 25 ≤ v → v ≤ 26 → Some (addressed c d code p k) ≡ explanation c d code p v k
+  unfolding explanation
+  addressed_told l h = by (eqb v 25) refl
+    where
+      by : (t : Bool) → eqb v 25 ≡ t → Some (addressed c d code p k) ≡ explanation c d code p v k
+      by true e = let q : v ≡ 25 = eqb-true v 25 e in rw q
+      by false e = let n : v ≡ 25 → ⊥ = eqb-false v 25 e in let q : v ≡ 26 = omega arith in rw q
+
 module _ (m : Machine) (code ws : List ℕ) where
   -- The source of a register, after n steps
   noted_source_lem : (k n : ℕ) (r : Retraced) → Retraces m code ws n r
@@ -62,9 +78,9 @@ module _ (m : Machine) (code ws : List ℕ) where
           let d : k % 32 ≡ 0 → ⊥ = eqb-false (k % 32) 0 e in
           rw e (h.2 (k % 32) (omega arith) (omega arith))
 
-  pub addressed_told : (k : ℕ) (r : Retraced) → Retraces m code ws k r → addressed_by r ≡ addressed m.code m.«data» code (state_of m, ws) k
+  pub addressed_retraced : (k : ℕ) (r : Retraced) → Retraces m code ws k r → addressed_by r ≡ addressed m.code m.«data» code (state_of m, ws) k
   unfolding addressed
-  addressed_told k r h = rw (h.0, noted_source_lem (rs1 (word_of m.code m.«data» code (state_of m, ws) k)) k r h)
+  addressed_retraced k r h = rw (h.0, noted_source_lem (rs1 (word_of m.code m.«data» code (state_of m, ws) k)) k r h)
 
   pub led_start : (k : ℕ) → (2 ≤ k → ⊥) → because.Card ≡ led m.code m.«data» code (state_of m, ws) k
   unfolding led
@@ -72,9 +88,9 @@ module _ (m : Machine) (code ws : List ℕ) where
   led_start (suc zero) l = refl
   led_start (suc (suc j)) l = absurd (omega arith)
 
-  pub led_told : (k j : ℕ) (r : Retraced) → (2 ≤ k) × (j ≡ k - 2) → Retraces m code ws j r → led_by r ≡ led m.code m.«data» code (state_of m, ws) k
+  pub led_retraced : (k j : ℕ) (r : Retraced) → (2 ≤ k) × (j ≡ k - 2) → Retraces m code ws j r → led_by r ≡ led m.code m.«data» code (state_of m, ws) k
   unfolding led
-  led_told k j r e h =
+  led_retraced k j r e h =
       let q : k ≡ suc (suc j) = omega arith in
       rw (q, h.0, h.1) (by (turn (word_of m.code m.«data» code (state_of m, ws) j) (before m.code m.«data» code (state_of m, ws) j).gpr))
     where

@@ -31,7 +31,7 @@ pub(crate) fn step(
     requires { Rooms machine.now code.now words.old }
     ensures { Stepped machine.now code.now state.old words.old result state.new words.new }
 {
-    let word = fetch(machine.code, state.dpc, code)?;
+    let word = fetch(machine.code, state, code)?;
     let Some(instruction) = words::read(word) else {
         return Err(Stop {
             test: Test::Illegal,
@@ -53,18 +53,19 @@ pub(crate) fn step(
     Ok(written(effect))
 }
 
-// The word at DPC, which has passed tests 21 and 22.
-fn fetch(region: Region, dpc: u32, code: &[u32]) -> Result<u32, Stop>
+// The word at DPC, which has passed tests 21 and 22. Test 21 has its goal's name from `fetched`, which an edit takes from PC'.
+fn fetch(region: Region, state: &State, code: &[u32]) -> Result<u32, Stop>
     requires { Room region code.now }
-    ensures { Fetches region dpc code.now result }
+    ensures { Fetches region state.now.dpc code.now result }
 {
-    if dpc % 4 != 0 {
+    let fetched = state.dpc;
+    if fetched % 4 != 0 {
         return Err(Stop {
             test: Test::Misaligned,
             word: 0,
         });
     }
-    let offset = offset_of(region, dpc);
+    let offset = offset_of(region, state.dpc);
     if 4 * u64::from(region.words) <= offset {
         return Err(Stop {
             test: Test::Outside,
@@ -91,7 +92,7 @@ fn place(region: Region, address: u32) -> usize
     ((address - region.start) / 4) as usize
 }
 
-// The first of the tests 25 to 27 that an effect breaks. A new kind of effect needs its tests here, or it passes.
+// The first of the tests 25 to 27 that an effect breaks.
 #[tactic(auto, unfolding(crate::specs::Checks::outside, machine::specs::Effects::access, machine::specs::Effects::askew))]
 fn first_broken(effect: Effect, region: Region) -> Result<(), Test>
     ensures { broken_no result ≡ first ((askew effect, 25) ∷ (outside region effect, 26) ∷ (mode_set effect, 27) ∷ []) 0 }
@@ -99,7 +100,12 @@ fn first_broken(effect: Effect, region: Region) -> Result<(), Test>
     match effect {
         Effect::Load(kind, _, ea) => broken_access(kind, ea, region)?,
         Effect::Store(kind, ea, _) => broken_access(kind, ea, region)?,
-        _ => {}
+        Effect::Put(..)
+        | Effect::PutSpecial(..)
+        | Effect::Sum(..)
+        | Effect::Trap(_)
+        | Effect::Return
+        | Effect::Nothing => {}
     }
     if effect.sets_mode() {
         return Err(Test::Mode);
@@ -132,6 +138,11 @@ fn access(effect: Effect, region: Region, words: &mut [u32]) -> u32
             words[place(region, ea)] = value;
             0
         }
-        _ => 0,
+        Effect::Put(..)
+        | Effect::PutSpecial(..)
+        | Effect::Sum(..)
+        | Effect::Trap(_)
+        | Effect::Return
+        | Effect::Nothing => 0,
     }
 }

@@ -1,9 +1,9 @@
 // The assembler machine, the level drawing: a checked step and a run of them, over the record and two lent buffers.
 #![tactic(auto)]
 
-ghost use Rattle.std.specs.Prelude.{◌≡◌};
+ghost use Rattle.std.specs.Prelude.{◌≡◌, length};
 ghost use Rattle.checker.specs.Checks.{test_no};
-ghost use Rattle.checker.specs.Runs.{verdict_answer, stepping, runs};
+ghost use Rattle.checker.specs.Runs.{verdict_answer, run_refusal, stepping, runs};
 ghost use Rattle.checker.specs.Seven.{explaining};
 
 mod admitted;
@@ -117,7 +117,7 @@ pub fn step(machine: Machine, code: &[u32], words: &mut [u32]) -> Outcome
     ensures { ◌≡◌ (verdict_answer result.verdict, result.machine, words.new) (stepping machine code.now words.old) }
 {
     let refused = refused::of_step(&machine, code.len(), words.len());
-    running::take(refused, machine, 1, code, words)
+    running::take(refused, &machine, 1, code, words)
 }
 
 // Steps until the limit or the first violation, without the explanation.
@@ -126,22 +126,39 @@ pub fn check(machine: Machine, code: &[u32], words: &mut [u32]) -> Outcome
     ensures { ◌≡◌ (verdict_answer result.verdict, result.machine, words.new) (runs machine code.now words.old) }
 {
     let refused = refused::of_run(&machine, code.len(), words.len());
-    running::take(refused, machine, machine.limit, code, words)
+    running::take(refused, &machine, machine.limit, code, words)
 }
 
-// The same, with the explanation. What that needs is found after the run, by taking its steps once more from a copy of the data.
+// The same, with the explanation.
 pub fn run(machine: Machine, code: &[u32], words: &mut [u32]) -> Explained
     ensures ran { ◌≡◌ (verdict_answer result.verdict, result.machine, words.new) (runs machine code.now words.old) }
     ensures explained { result.explanation ≡ explaining machine code.now words.old (runs machine code.now words.old).0 }
 {
-    let before = <[u32; Machine::WORDS]>::try_from(&words[..]);
+    match refused::of_run(&machine, code.len(), words.len()) {
+        Ok(()) => run_explained(&machine, code, words),
+        Err(refusal) => Explained {
+            verdict: Verdict::Refused(refusal),
+            machine,
+            explanation: None,
+        },
+    }
+}
+
+// A run that is not refused. What its explanation needs is found after it, by taking its steps once more from a copy of the data:
+// a function of its own, since a refused run would pay for the room of the copy.
+fn run_explained(machine: &Machine, code: &[u32], words: &mut [u32]) -> Explained
+    requires { run_refusal machine.now (length code.now) (length words.old) ≡ 0 }
+    ensures ran { ◌≡◌ (verdict_answer result.verdict, result.machine, words.new) (runs machine.now code.now words.old) }
+    ensures explained { result.explanation ≡ explaining machine.now code.now words.old (runs machine.now code.now words.old).0 }
+{
+    let mut before = <[u32; Machine::WORDS]>::try_from(&words[..]);
     let Outcome {
         verdict,
         machine: left,
-    } = check(machine, code, words);
-    let explanation = match before {
-        Ok(mut data) => explain(machine, verdict, code, &mut data),
-        // Data of another length are refused, and then nothing is explained.
+    } = running::take(Ok(()), machine, machine.limit, code, words);
+    let explanation = match &mut before {
+        Ok(data) => explain(*machine, verdict, code, data),
+        // Data of another length are refused.
         Err(_) => None,
     };
     Explained {

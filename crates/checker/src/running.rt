@@ -56,22 +56,22 @@ pub(crate) fn go(
 // Takes at most `limit` steps of a record. Refused, nothing changes.
 pub(crate) fn take(
     refused: Result<(), Refusal>,
-    machine: Machine,
+    machine: &Machine,
     limit: u32,
     code: &[u32],
     words: &mut [u32],
 ) -> Outcome
-    requires { refused_no refused ≡ 0 → Rooms machine code.now words.old }
-    ensures { ◌≡◌ (verdict_answer result.verdict, result.machine, words.new) (taking (refused_no refused) limit machine code.now words.old) }
+    requires { refused_no refused ≡ 0 → Rooms machine.now code.now words.old }
+    ensures { ◌≡◌ (verdict_answer result.verdict, result.machine, words.new) (taking (refused_no refused) limit machine.now code.now words.old) }
 {
     if let Err(refusal) = refused {
         return Outcome {
             verdict: Verdict::Refused(refusal),
-            machine,
+            machine: *machine,
         };
     }
     let mut state = machine.state();
-    let ran = go(&machine, limit, &mut state, code, words);
+    let ran = go(machine, limit, &mut state, code, words);
     Outcome {
         verdict: ran.verdict,
         machine: machine.with_state(state),

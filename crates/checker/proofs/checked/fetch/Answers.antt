@@ -4,4 +4,4 @@ use Rattle.checker.proofs.checked.fetch.Goals as goal
 pub returns : goal.returns
 returns c =
     let h = (rw c.from.ensures at c.if-from-offset.false) in
-    (c.if-dpc-ne0.false, (c.offset_of-offset.ensures.0 h).0, offset_word c.args.region c.args.code.now _ _ c.offset_of-offset.ensures h)
+    (c.if-fetched-ne0.false, (c.offset_of-offset.ensures.0 h).0, offset_word c.args.region c.args.code.now _ _ c.offset_of-offset.ensures h)
