@@ -23,7 +23,7 @@ pub const SPECIAL: usize = 164;
 // The code words, then the data words.
 pub const BODY: usize = 292;
 
-// The number of 16 bits at an offset.
+// The number of 16 bits at an offset; beside that of 32, since no trait of std shares the two `from_le_bytes`.
 #[tactic(auto, unfolding(crate::specs::Card::number16))]
 pub(crate) fn number16(card: &[u8], at: usize) -> u16
     requires { at + 2 ≤ length card.now }

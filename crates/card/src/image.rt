@@ -22,14 +22,15 @@ impl Segment<'_> {
     ghost use Rattle.std.specs.Prelude.{◌≡◌};
     ghost use Rattle.card.specs.Work.{found};
 
-    // The word at an address, if the region holds it.
+    // The word at an address, if the region holds it. An address before the region wraps to beyond it, so that one test tells both
+    // ways out: it is made for each word of memory.
     #[tactic(auto, unfolding(machine::specs::Record::word_at))]
     fn word_at(&self, address: u32) -> Option<u32>
         ensures { result ≡ found self.now.region self.now.buffer.now address }
     {
-        if self.region.contains(address) {
-            let at = (address - self.region.start) / 4;
-            Some(self.buffer[at as usize])
+        let offset = u64::from(address).wrapping_sub(u64::from(self.region.start));
+        if offset < 4 * u64::from(self.region.words) {
+            Some(self.buffer[(offset / 4) as usize])
         } else {
             None
         }
@@ -58,18 +59,19 @@ impl<'a> Image<'a> {
         Image { code, words }
     }
 
-    // The word at an address: the code's or the data's, and zero elsewhere.
+    // The word at an address: the code's or, where it holds none, the data's, and zero elsewhere. Only then the data are asked:
+    // this is done for each word of memory.
     #[tactic(auto, unfolding(machine::specs::Record::image))]
     fn word_at(&self, address: u32) -> u32
         ensures { result ≡ image self.now.code.region self.now.words.region self.now.code.buffer.now self.now.words.buffer.now address }
     {
-        self.code
-            .word_at(address)
-            .or(self.words.word_at(address))
-            .unwrap_or(0)
+        match self.code.word_at(address) {
+            Some(word) => word,
+            None => self.words.word_at(address).unwrap_or(0),
+        }
     }
 
-    // Double word `i` of VAMP memory: the word at 8i below the word at 8i + 4.
+    // Double word `i` of VAMP memory: the word at 8i below the word at 8i + 4. `calls` puts together two words that it has.
     #[tactic(auto, unfolding(crate::specs::Card::double))]
     pub(crate) fn double_at(&self, i: usize) -> u64
         requires { i < DOUBLE_WORDS }
