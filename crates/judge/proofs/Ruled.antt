@@ -27,12 +27,14 @@ use Rattle.checker.proofs.Theorems.{Fine, First, ends, accepts, stops_at}
 use Rattle.card.specs.declared.Loaded.{Loaded}
 use Rattle.card.specs.Card.{record_of_lem, code_buffer, data_buffer, answer_of as answer_of_loaded, loading}
 use Rattle.card.proofs.Results.{Meets, refused_by_lem, loading_accepted, loading_refused, loaded_accepted}
-use Rattle.judge.specs.declared.Program.{Program}
 use Rattle.judge.specs.Judging.{ruled, refused_by, ran_of, judging, explained_by}
 use Rattle.judge.specs.Work.{program_of, ruling_of_lem}
 
 abbrev Given : Type 0
 Given = (ℕ × Bool) × Machine × List ℕ × List ℕ × List ℕ
+
+abbrev Program : Type 0
+Program = Machine × List ℕ × List ℕ
 
 abbrev Ran : Type 0
 Ran = (ℕ × List ℕ) × Machine × List ℕ
@@ -105,22 +107,22 @@ module _ (card code ws memory : List ℕ) (c : length code ≡ LONGEST) (w : len
   pub loaded_ok : r.answer ≡ Ok tt → 0 ≡ refused_by card
   loaded_ok a = sym (loaded_accepted card code ws memory r code' ws' memory' p a) ∙ right
 
-  pub loaded_program : r.answer ≡ Ok tt → record { machine = r.machine; code = code'; words = ws' } ≡ program_of card
+  pub loaded_program : r.answer ≡ Ok tt → (r.machine, code', ws') ≡ program_of card
   loaded_program a =
       let e = p ∙ loading_accepted card code ws memory (loaded_accepted card code ws memory r code' ws' memory' p a) in
-      ap (λ (t : Given). record { machine = t.1; code = t.2; words = t.3 }) e
+      ap (λ (t : Given). (t.1, t.2, t.3)) e
 
 -- A card that is not refused is answered by its run
-module _ (card : List ℕ) (n : 0 ≡ refused_by card) (q : Program) (s : q ≡ program_of card) where
-  pub run_ruling : (o : Outcome) (ws' : List ℕ) → ◌≡◌ (verdict_answer o.verdict, o.machine, ws') (runs q.machine q.code q.words) → ruling_of_lem o.verdict o.machine.dpc ≡ judging card
+module _ (card : List ℕ) (n : 0 ≡ refused_by card) (m : Machine) (code ws : List ℕ) (s : ◌≡◌ {A = Program} (m, code, ws) (program_of card)) where
+  pub run_ruling : (o : Outcome) (ws' : List ℕ) → ◌≡◌ (verdict_answer o.verdict, o.machine, ws') (runs m code ws) → ruling_of_lem o.verdict o.machine.dpc ≡ judging card
   run_ruling o ws' e =
-      let shaped = subst Shaped (ap (λ (t : Ran). t.0) (sym e)) (shaped_taking _ q.machine.limit q.machine q.code q.words) in
+      let shaped = subst Shaped (ap (λ (t : Ran). t.0) (sym e)) (shaped_taking _ m.limit m code ws) in
       ruled_verdict o.verdict o.machine.dpc shaped
-      ∙ ap (λ (t : Ran). ruled t.0 t.1.dpc) (e ∙ ap (λ (x : Program). runs x.machine x.code x.words) s)
+      ∙ ap (λ (t : Ran). ruled t.0 t.1.dpc) (e ∙ ap (λ (x : Program). runs x.0 x.1 x.2) s)
       ∙ judging_accepted card (sym n)
 
-  pub run_explained : (x : Option Explanation) → x ≡ explaining q.machine q.code q.words (runs q.machine q.code q.words).0 → x ≡ explained_by card
+  pub run_explained : (x : Option Explanation) → x ≡ explaining m code ws (runs m code ws).0 → x ≡ explained_by card
   run_explained x e =
       e
-      ∙ ap (λ (y : Program). explaining y.machine y.code y.words (runs y.machine y.code y.words).0) s
+      ∙ ap (λ (y : Program). explaining y.0 y.1 y.2 (runs y.0 y.1 y.2).0) s
       ∙ explained_accepted card (sym n)

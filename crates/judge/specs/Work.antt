@@ -5,13 +5,13 @@ use Rattle.card.specs.Card.{record_of_lem, code_buffer, data_buffer}
 use Rattle.checker.specs.declared.Verdict.{Verdict}
 use Rattle.checker.specs.declared.Verdict.TheVariants.{Refused, Accepted, Violation}
 use Rattle.checker.specs.Checks.{test_no}
-use Rattle.judge.specs.declared.Program.{Program}
+use Rattle.machine.specs.declared.Machine.{Machine}
 use Rattle.judge.specs.declared.lines.Line.{Line}
 use Rattle.judge.specs.Line.{line_of}
 
 -- The record and the buffers that a card loads
-abbrev pub program_of : List ℕ → Program
-program_of card = record { machine = record_of_lem card; code = code_buffer card; words = data_buffer card }
+abbrev pub program_of : List ℕ → Machine × List ℕ × List ℕ
+program_of card = (record_of_lem card, code_buffer card, data_buffer card)
 
 -- The answer of a verdict's ruling, the next DPC being known
 abbrev pub ruling_of_lem : Verdict → ℕ → ℕ × List ℕ

@@ -30,36 +30,30 @@ pub enum Ruling {
     Violation(u32, At),
 }
 
-// A loaded card: its record, and the buffers of code and data.
-#[derive(Clone, Copy)]
-struct Program {
-    machine: Machine,
-    code: [u32; Machine::WORDS],
-    words: [u32; Machine::WORDS],
-}
-
-fn loaded(card: &[u8]) -> Result<Program, Refusal>
+// The record of a loaded card, in buffers that the caller has, since there is no heap; VAMP memory, which no ruling asks for, is
+// this call's own.
+fn loaded(
+    card: &[u8],
+    code: &mut [u32; Machine::WORDS],
+    words: &mut [u32; Machine::WORDS],
+) -> Result<Machine, Refusal>
     ensures refused { refused_no result ≡ refused_by card.now }
-    ensures ok { IfOk result (λ program. program ≡ program_of card.now) }
+    ensures ok { IfOk result (λ machine. (machine, code.new, words.new) ≡ program_of card.now) }
 {
-    let mut code = [0; Machine::WORDS];
-    let mut words = [0; Machine::WORDS];
     let mut memory = [0; Machine::DOUBLE_WORDS];
-    let loaded = load(card, &mut code, &mut words, &mut memory);
+    let loaded = load(card, code, words, &mut memory);
     loaded.answer?;
-    Ok(Program {
-        machine: loaded.machine,
-        code,
-        words,
-    })
+    Ok(loaded.machine)
 }
 
 // Loads a card and runs it.
 pub fn judge(card: &[u8]) -> Ruling
     ensures { answer_of result ≡ judging card.now }
 {
-    match loaded(card) {
-        Ok(mut program) => check(program.machine, &program.code, &mut program.words).into(),
+    let mut code = [0; Machine::WORDS];
+    let mut words = [0; Machine::WORDS];
+    match loaded(card, &mut code, &mut words) {
+        Ok(machine) => check(machine, &code, &mut words).into(),
         Err(refusal) => Ruling::Refused(refusal.number()),
     }
 }
@@ -80,8 +74,10 @@ impl From<Outcome> for Ruling {
 pub fn explain(card: &[u8]) -> Option<Explanation>
     ensures { result ≡ explained_by card.now }
 {
-    match loaded(card) {
-        Ok(mut program) => run(program.machine, &program.code, &mut program.words).explanation,
+    let mut code = [0; Machine::WORDS];
+    let mut words = [0; Machine::WORDS];
+    match loaded(card, &mut code, &mut words) {
+        Ok(machine) => run(machine, &code, &mut words).explanation,
         Err(_) => None,
     }
 }

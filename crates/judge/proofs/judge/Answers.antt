@@ -8,7 +8,7 @@ use Rattle.judge.proofs.Ruled.{run_ruling, refused_ruling}
 use Rattle.judge.proofs.judge.Goals as goal
 
 pub returns-in-Ok : goal.returns-in-Ok
-returns-in-Ok c = c.into.ensures ∙ run_ruling c.args.card.now c.in-Ok.ensures.refused c.in-Ok.program c.in-Ok.ensures.ok c.check.result _ c.check.ensures
+returns-in-Ok c = c.into.ensures ∙ run_ruling c.args.card.now c.in-Ok.ensures.refused c.in-Ok.machine _ _ c.in-Ok.ensures.ok c.check.result _ c.check.ensures
 
 pub returns-in-Err : goal.returns-in-Err
 returns-in-Err c =

@@ -1,5 +1,5 @@
-use Prim.Native.Nat.{ℕ, zero, suc, ◌+◌, ◌*◌, ◌-◌, ◌^◌, ◌≤◌, ◌<◌}
-use mathlib.Core.Path.{◌≡◌}
+use Prim.Native.Nat.{ℕ, zero, suc, ◌*◌, ◌-◌, ◌^◌, ◌≤◌, ◌<◌}
+use mathlib.Core.Path.{◌≡◌, ◌∙◌}
 use mathlib.Core.Logic.{◌⊎◌, inl, inr}
 use native.Mathlib.Nat.{pow-le-pow_right, one-le-pow}
 use native.Mathlib.Omega.{arith}
@@ -40,14 +40,15 @@ counted (suc n) k small some held needed =
 lower : (p n : ℕ) → 10 ^ p ≤ n → 10 ^ (suc p - 1) ≤ n
 lower p n h = let e : suc p - 1 ≡ p = omega arith in rw e h
 
-plus_one : (n : ℕ) → n + 1 ≡ suc n
-plus_one n = omega arith
+-- What is answered is such a count
+answered : (n k r : ℕ) → r ≡ k → k ≡ places n → r ≡ places n
+answered n k r e h = e ∙ h
 
 pub returns-in-Some-clause-value : goal.returns-in-Some-clause-value
 returns-in-Some-clause-value c =
     let next : c.args.n < 10 * 10 ^ c.in-Some.power = c.in-Some.ensures.next_power_gt in
     let low = c.in-Some.ensures.power_le in
-    rw (plus_one c.in-Some.power) (counted c.args.n (suc c.in-Some.power) (omega arith) (omega arith) (rw (pow-succ' 10 c.in-Some.power) next) (λ l. lower c.in-Some.power c.args.n low))
+    answered _ (suc c.in-Some.power) _ (grind arith) (counted c.args.n (suc c.in-Some.power) (omega arith) (omega arith) (rw (pow-succ' 10 c.in-Some.power) next) (λ l. lower c.in-Some.power c.args.n low))
 
 pub returns-in-None-clause-value : goal.returns-in-None-clause-value
 returns-in-None-clause-value c =
