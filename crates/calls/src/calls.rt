@@ -1,4 +1,5 @@
 // The calls: each takes its inputs from the places, writes its answer, and keeps in the places what it left.
+use crate::changes::put_hex;
 use crate::checking::{put_checker, unexplained};
 use crate::instructions::instruction_of;
 use crate::loading::{put_judge, put_load};
@@ -89,7 +90,10 @@ fn put_read<W: Write>(out: &mut W, word: u32) -> io::Result<()> {
 fn put_make<W: Write>(out: &mut W, places: &Places) -> io::Result<()> {
     let operands = [places[OPERANDS], places[OPERANDS + 1], places[OPERANDS + 2]];
     match make(instruction_of(places[MNEMONIC], operands)) {
-        Some(word) => write!(out, "made x{word:08X}"),
+        Some(word) => {
+            put(out, b"made ")?;
+            put_hex(out, word)
+        }
         None => put(out, b"refused 14"),
     }
 }

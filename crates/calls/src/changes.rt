@@ -1,6 +1,6 @@
 // What a call left that is not as it was given.
 use crate::places::{Places, put_place};
-use show::put;
+use show::{put, put_word};
 use std::io;
 use std::io::Write;
 
@@ -16,5 +16,12 @@ pub(crate) fn put_changes<W: Write>(out: &mut W, given: &Places, left: &Places) 
 fn put_change<W: Write>(out: &mut W, place: usize, now: u32) -> io::Result<()> {
     put(out, b" ")?;
     put_place(out, place)?;
-    write!(out, "=x{now:08X}")
+    put(out, b"=")?;
+    put_hex(out, now)
+}
+
+// A word as the format writes it.
+pub(crate) fn put_hex<W: Write>(out: &mut W, word: u32) -> io::Result<()> {
+    put(out, b"x")?;
+    put_word(out, word)
 }

@@ -1,7 +1,7 @@
 // The inputs of a call, read into places. Each is three numbers: a place, a count, and what so many places from there on take.
 use crate::places::{CODE_LENGTH, DATA_LENGTH, MEMORY_LENGTH, PLACES, Places};
 use machine::Machine;
-use show::read_full;
+use show::{read_full, word};
 use std::io;
 use std::io::Read;
 
@@ -30,10 +30,16 @@ fn take_one<R: Read>(input: &mut R, given: &mut Places) -> io::Result<bool> {
         return Ok(false);
     }
     let (numbers, _) = bytes.as_chunks::<4>();
-    let place = u32::from_le_bytes(numbers[0]) as usize;
-    let count = u32::from_le_bytes(numbers[1]) as usize;
+    let place = number(numbers[0]) as usize;
+    let count = number(numbers[1]) as usize;
     let from = place.min(PLACES);
     let to = (place + count).min(PLACES);
-    given[from..to].fill(u32::from_le_bytes(numbers[2]));
+    given[from..to].fill(number(numbers[2]));
     Ok(true)
+}
+
+// The number of four bytes.
+pub(crate) fn number(bytes: [u8; 4]) -> u32 {
+    let [a, b, c, d] = bytes;
+    word(a, b, c, d)
 }

@@ -18,7 +18,7 @@ mod told;
 
 use calls::perform;
 use changes::put_changes;
-use inputs::take_inputs;
+use inputs::{number, take_inputs};
 use places::{PLACES, Places};
 use show::{put, read_full};
 use std::io;
@@ -54,8 +54,8 @@ fn one<R: Read, W: Write>(input: &mut R, out: &mut W, name: &mut [u8]) -> io::Re
         return Ok(false);
     }
     let (numbers, _) = head.as_chunks::<4>();
-    let length = u32::from_le_bytes(numbers[0]) as usize;
-    let inputs = u32::from_le_bytes(numbers[1]);
+    let length = number(numbers[0]) as usize;
+    let inputs = number(numbers[1]);
     if got < 8 || length > name.len() {
         return cut(out);
     }

@@ -1,5 +1,6 @@
 // What a call is given, and what it leaves, is an array of words, since the input names what it sets by a number. A place is an
 // index of it.
+use show::{put, put_number};
 use std::io;
 use std::io::Write;
 
@@ -104,10 +105,13 @@ const ARRAYS: [Array; 5] = [
 // The name of a place that a call may change.
 pub(crate) fn put_place<W: Write>(out: &mut W, place: usize) -> io::Result<()> {
     if let Some(name) = NUMBERS.get(place) {
-        return write!(out, "{name}");
+        return put(out, name.as_bytes());
     }
     match ARRAYS.iter().find(|array| array.start <= place) {
-        Some(array) => write!(out, "{}{}", array.name, place - array.start),
+        Some(array) => {
+            put(out, array.name.as_bytes())?;
+            put_number(out, (place - array.start) as u64)
+        }
         None => Ok(()),
     }
 }

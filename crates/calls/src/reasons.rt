@@ -1,6 +1,7 @@
 // An explanation as text, value by value: the words of the second line, with each word of 32 bits as the format writes it.
+use crate::changes::put_hex;
 use checker::{At, Explanation, Source};
-use show::put;
+use show::{put, put_named};
 use std::io;
 use std::io::Write;
 
@@ -13,16 +14,14 @@ pub(crate) fn put_explanation<W: Write>(
     match explanation {
         None => Ok(()),
         Some(Explanation::Register(register, source)) => {
-            put(out, b" because")?;
-            put_register(out, register, source)
+            put_register(out, b" because r", register, source)
         }
         Some(Explanation::Card) => put(out, b" because dpc from card"),
         Some(Explanation::RanOn) => put(out, b" because dpc ran on"),
         Some(Explanation::Transfer(at)) => put_transfer(out, at),
         Some(Explanation::Jr(at, register, source)) => {
             put_transfer(out, at)?;
-            put(out, b",")?;
-            put_register(out, register, source)
+            put_register(out, b", r", register, source)
         }
     }
 }
@@ -32,9 +31,15 @@ fn put_transfer<W: Write>(out: &mut W, at: At) -> io::Result<()> {
     put_at(out, at)
 }
 
-// A register and its source.
-fn put_register<W: Write>(out: &mut W, register: u8, source: Source) -> io::Result<()> {
-    write!(out, " r{register} from")?;
+// A register and its source, behind some text.
+fn put_register<W: Write>(
+    out: &mut W,
+    before: &[u8],
+    register: u8,
+    source: Source,
+) -> io::Result<()> {
+    put_named(out, before, u32::from(register))?;
+    put(out, b" from")?;
     match source {
         Source::Card => put(out, b" card"),
         Source::Zero => put(out, b" zero"),
@@ -44,9 +49,9 @@ fn put_register<W: Write>(out: &mut W, register: u8, source: Source) -> io::Resu
 
 // A step, its DPC and its word.
 pub(crate) fn put_at<W: Write>(out: &mut W, at: At) -> io::Result<()> {
-    write!(
-        out,
-        " step {} at x{:08X} word x{:08X}",
-        at.step, at.dpc, at.word
-    )
+    put_named(out, b" step ", at.step)?;
+    put(out, b" at ")?;
+    put_hex(out, at.dpc)?;
+    put(out, b" word ")?;
+    put_hex(out, at.word)
 }

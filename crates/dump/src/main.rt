@@ -8,7 +8,7 @@ use card::load;
 use checker::Verdict;
 use judge::Ruling;
 use machine::{Machine, Refusal};
-use show::{ROOM, put, put_ruling, read_full};
+use show::{ROOM, put, put_named, put_ruling, put_word, read_full};
 use states::{both, put_changes, put_registers};
 use std::io;
 use std::io::{Read, Write};
@@ -21,6 +21,7 @@ fn main(rt: HostRuntime) -> io::Result<()> {
 
 fn dump<R: Read, W: Write>(input: &mut R, out: &mut W, card: &mut [u8]) -> io::Result<()> {
     let n = read_full(input, card)?;
+    // The buffers have to live here: there is no heap.
     let mut code = [0u32; Machine::WORDS];
     let mut words = [0u32; Machine::WORDS];
     let mut memory = [0u64; Machine::DOUBLE_WORDS];
@@ -59,15 +60,14 @@ fn put_checker<W: Write>(
 fn put_verdict<W: Write>(out: &mut W, verdict: Verdict) -> io::Result<()> {
     match verdict {
         // A loaded record is never refused: theorem loaded_passes of card.
-        Verdict::Refused(refusal) => writeln!(out, "refused {}", refusal.number()),
-        Verdict::Accepted(steps) => writeln!(out, "accepted {steps}"),
-        Verdict::Violation(violation) => writeln!(
-            out,
-            "violation {} step {}",
-            violation.test.number(),
-            violation.at.step,
-        ),
+        Verdict::Refused(refusal) => put_named(out, b"refused ", refusal.number())?,
+        Verdict::Accepted(steps) => put_named(out, b"accepted ", steps)?,
+        Verdict::Violation(violation) => {
+            put_named(out, b"violation ", violation.test.number())?;
+            put_named(out, b" step ", violation.at.step)?;
+        }
     }
+    put(out, b"\n")
 }
 
 fn put_vamp<W: Write>(
@@ -79,7 +79,8 @@ fn put_vamp<W: Write>(
     let ran = vamp::run(machine, &mut after, machine.limit);
     put(out, b"vamp ")?;
     put_end(out, &ran)?;
-    writeln!(out, "masked {}", ran.masked)?;
+    put_named(out, b"masked ", ran.masked)?;
+    put(out, b"\n")?;
     put_registers(out, &ran.machine)?;
     put_changes(
         out,
@@ -94,13 +95,13 @@ fn put_vamp<W: Write>(
 // How a VAMP run ended: at the limit, or before a step with another answer than 0.
 fn put_end<W: Write>(out: &mut W, ran: &Ran) -> io::Result<()> {
     match ran.answer {
-        Answer::Stepped | Answer::Masked => writeln!(out, "stepped {}", ran.steps),
-        answer => writeln!(
-            out,
-            "stopped {} cause {:08X} step {}",
-            answer.number(),
-            answer.cause(),
-            ran.steps,
-        ),
+        Answer::Stepped | Answer::Masked => put_named(out, b"stepped ", ran.steps)?,
+        answer => {
+            put_named(out, b"stopped ", answer.number())?;
+            put(out, b" cause ")?;
+            put_word(out, answer.cause())?;
+            put_named(out, b" step ", ran.steps)?;
+        }
     }
+    put(out, b"\n")
 }

@@ -7,7 +7,11 @@ use std::io;
 use std::io::Write;
 
 pub(crate) fn put_registers<W: Write>(out: &mut W, machine: &Machine) -> io::Result<()> {
-    writeln!(out, "dpc {:08X} pc {:08X}", machine.dpc, machine.pc)?;
+    put(out, b"dpc ")?;
+    put_word(out, machine.dpc)?;
+    put(out, b" pc ")?;
+    put_word(out, machine.pc)?;
+    put(out, b"\n")?;
     put_values(out, b"gpr", &machine.gpr)?;
     put_values(out, b"spr", &machine.spr)
 }
@@ -39,9 +43,17 @@ pub(crate) fn put_changes<W: Write, I: Iterator<Item = (u32, u32)>>(
     let mut address = start;
     for (before, after) in words {
         if before != after {
-            writeln!(out, "word {address:08X} {after:08X}")?;
+            put_change(out, address, after)?;
         }
         address = address.wrapping_add(4);
     }
     Ok(())
+}
+
+fn put_change<W: Write>(out: &mut W, address: u32, after: u32) -> io::Result<()> {
+    put(out, b"word ")?;
+    put_word(out, address)?;
+    put(out, b" ")?;
+    put_word(out, after)?;
+    put(out, b"\n")
 }

@@ -2,6 +2,7 @@
 use card::load;
 use checker::Verdict;
 use machine::Machine;
+use show::{lower, put, put_word, upper};
 use std::io;
 use std::io::Write;
 use vamp::{Answer, Ran};
@@ -13,6 +14,7 @@ const PRIME: u64 = 0x100000001B3;
 
 // Nothing for a card that is refused.
 pub(crate) fn put_digests<W: Write>(out: &mut W, card: &[u8]) -> io::Result<()> {
+    // The buffers have to live here: there is no heap.
     let mut code = [0u32; Machine::WORDS];
     let mut words = [0u32; Machine::WORDS];
     let mut memory = [0u64; Machine::DOUBLE_WORDS];
@@ -21,9 +23,17 @@ pub(crate) fn put_digests<W: Write>(out: &mut W, card: &[u8]) -> io::Result<()> 
     if loaded.answer.is_ok() {
         let asm = checker_digest(machine, &code, &mut words);
         let vamp = vamp_digest(machine, &mut memory);
-        write!(out, " asm {asm:016X} vamp {vamp:016X}")?;
+        put(out, b" asm ")?;
+        put_double(out, asm)?;
+        put(out, b" vamp ")?;
+        put_double(out, vamp)?;
     }
     Ok(())
+}
+
+fn put_double<W: Write>(out: &mut W, double: u64) -> io::Result<()> {
+    put_word(out, upper(double))?;
+    put_word(out, lower(double))
 }
 
 // The steps taken, the answer, the registers, the code and the data.

@@ -8,7 +8,7 @@ mod digests;
 
 use digests::put_digests;
 use judge::{explain, judge};
-use show::{ROOM, put, put_because, put_ruling, read_full};
+use show::{ROOM, put, put_because, put_ruling, read_full, word};
 use std::io;
 use std::io::{Read, Write};
 
@@ -41,7 +41,8 @@ fn one<R: Read, W: Write>(input: &mut R, out: &mut W, card: &mut [u8]) -> io::Re
     if got < 4 {
         return cut(out);
     }
-    let length = u32::from_le_bytes(length) as usize;
+    let [a, b, c, d] = length;
+    let length = word(a, b, c, d) as usize;
     let kept = length.min(card.len());
     answer(input, out, &mut card[..kept], length - kept)
 }

@@ -1,5 +1,5 @@
-// What the programs share: a card from standard input, text and numbers on standard output, the room for a card and the two words
-// of a double word; and the word of four bytes, which none of them uses.
+// What the programs share: a card from standard input, text and numbers on standard output, the room for a card, the word of four
+// bytes and the two words of a double word.
 #![tactic(auto)]
 
 ghost use Rattle.std.specs.Prelude.{◌≡◌, ◌+◌, ◌*◌, ◌/◌, ◌%◌, ◌^◌, ◌<◌, ◌≤◌, ◌++◌, length, take, OnOk, IfOk};

@@ -12,6 +12,7 @@ const ROOM: usize = 4096;
 fn main(rt: HostRuntime) -> io::Result<()> {
     let mut bytes = [0u8; ROOM];
     let n = read_full(&mut rt.stdin(), &mut bytes)?;
+    // The buffers have to live here: there is no heap.
     let mut code = [0u32; Machine::WORDS];
     let mut words = [0u32; Machine::WORDS];
     let mut memory = [0u64; Machine::DOUBLE_WORDS];
