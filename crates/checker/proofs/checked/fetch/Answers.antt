@@ -1,5 +1,12 @@
+use Rattle.std.proofs.Common.{rules}
 use Rattle.checker.proofs.Tests.{offset_word}
 use Rattle.checker.proofs.checked.fetch.Goals as goal
+
+pub returns-then-fetched-ne0 : goal.returns-then-fetched-ne0
+returns-then-fetched-ne0 c = search rules
+
+pub returns-then-from-offset : goal.returns-then-from-offset
+returns-then-from-offset c = search rules
 
 pub returns : goal.returns
 returns c =
