@@ -15,6 +15,11 @@ use words::{LoadKind, StoreKind};
 // Modelled memory, by double words.
 pub(crate) type Memory = [u64; Machine::DOUBLE_WORDS];
 
+// Half of the numbers that a byte, and that half a word, can hold.
+const BYTE_HALF: u32 = 1 << 7;
+
+const HALF_WORD_HALF: u32 = 1 << 15;
+
 // An address of modelled memory.
 #[derive(Clone, Copy)]
 pub(crate) struct Address {
@@ -72,8 +77,8 @@ fn load(kind: LoadKind, memory: &Memory, address: Address) -> u32
     ensures { result ≡ loaded kind memory.now address.number }
 {
     match kind {
-        LoadKind::Lb => extended::<128>(read::<8>(memory, address)),
-        LoadKind::Lh => extended::<32768>(read::<16>(memory, address)),
+        LoadKind::Lb => extended::<BYTE_HALF>(read::<8>(memory, address)),
+        LoadKind::Lh => extended::<HALF_WORD_HALF>(read::<16>(memory, address)),
         LoadKind::Lw => read::<32>(memory, address),
         LoadKind::Lbu => read::<8>(memory, address),
         LoadKind::Lhu => read::<16>(memory, address),
@@ -84,7 +89,7 @@ fn load(kind: LoadKind, memory: &Memory, address: Address) -> u32
 // again.
 #[tactic(auto, using(arithmetic::proofs::Lifted::extended_is))]
 fn extended<const HALF: u32>(x: u32) -> u32
-    requires { (0 < HALF) × (HALF ≤ 2 ^ 15) × (x < 2 * HALF) }
+    requires { (HALF ≤ 2 ^ 15) × (x < 2 * HALF) }
     ensures { result ≡ sext (signed HALF x) }
 {
     difference((x + HALF) % (2 * HALF), HALF)

@@ -8,7 +8,7 @@ use Rattle.checker.proofs.Refusals.{run_rooms, other_length}
 use Rattle.checker.proofs.run_explained.Goals as goal
 
 pub take-verdict-requires : goal.take-verdict-requires
-take-verdict-requires c = λ z. run_rooms c.args.machine.now (length c.args.code.now) (length c.args.words.now) (c.requires)
+take-verdict-requires c = λ z. run_rooms c.args.machine.now (length c.args.code.now) (length c.args.words.now) c.requires
 
 -- What no test refuses is run to the limit
 ran : (m : Machine) (code ws : List ℕ) {o : (ℕ × List ℕ) × Machine × List ℕ} → 0 ≡ run_refusal m (length code) (length ws) → o ≡ taking 0 m.limit m code ws → o ≡ runs m code ws
